@@ -1,4 +1,6 @@
 // The calls for C, C++ and Rust; include/arvumnao.h declares them. Each takes `out`, into which it writes its numbers.
+#![tactic(auto)]
+
 ghost use Rattle.std.specs.Prelude.{[], ◌≡◌, get_or, take};
 ghost use Rattle.search.specs.Block.{block_of};
 ghost use Rattle.search.specs.Turn.{congestion_of, timed_congestion};

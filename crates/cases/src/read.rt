@@ -8,14 +8,14 @@ use crate::{lines, show};
 use libc::STDIN_FILENO;
 
 // A number's value, and the place after it.
-#[derive(Drop)]
+#[derive(Clone, Copy)]
 struct Parsed {
     value: u64,
     next: usize,
 }
 
 // What is left of a line: this many entries, of which the first is `value` and each next one greater by `step`, then the text from `at` on.
-#[derive(Drop)]
+#[derive(Clone, Copy)]
 struct Rest {
     at: usize,
     value: u64,

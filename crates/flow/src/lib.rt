@@ -1,4 +1,6 @@
 // The whole way from a job text to its routes text or their picture, and what the program prints.
+#![tactic(auto)]
+
 ghost use Rattle.std.specs.Prelude.{◌≡◌, ◌≤◌, length, take};
 ghost use Rattle.price.specs.Test.{choose};
 ghost use Rattle.job.specs.Job.{job_of};
@@ -16,7 +18,7 @@ use negotiation::Outcome;
 use text::{ReadAnswer, Style, WriteAnswer};
 
 // What a run answers.
-#[derive(Drop)]
+#[derive(Clone, Copy)]
 pub enum RunAnswer {
     // This many bytes of the text are written.
     Written(usize),

@@ -1,5 +1,7 @@
 // The whole way from a job text to its routes text, and what the program prints, a line for each case of the file stdin, which
 // docs/CASES.md describes: the answer, then every table and buffer afterwards. The expected lines stand in the file stdout.
+#![tactic(auto)]
+
 use cases::{lines, read, show};
 use text::Style;
 // `run` and `respond` and their answers.

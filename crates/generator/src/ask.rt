@@ -6,14 +6,14 @@ ghost use Rattle.generator.specs.Ask.{number_up_to, field_ends, whole_field, nex
 ghost use Rattle.generator.specs.Steps.{asked_field_at, AskedFieldPlace, FieldWithin, asked_of, AskWithin};
 
 // A number with the place after its digits, or a fault.
-#[derive(Drop)]
+#[derive(Clone, Copy)]
 pub enum Field {
     Number { value: u64, next: usize },
     Fault,
 }
 
 // What the input asks for, or the place of the field for which it is refused.
-#[derive(Drop)]
+#[derive(Clone, Copy)]
 pub enum Ask {
     Load { seed: u32, nodes: u32, nets: u32 },
     TurnedAway(u32),

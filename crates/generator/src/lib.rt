@@ -1,4 +1,6 @@
 // A load anyone can make again: from a seed, a node count and a net count to a job's text.
+#![tactic(auto)]
+
 ghost use Rattle.std.specs.Prelude.{◌≡◌, ◌≤◌, [], ◌∷◌, length};
 ghost use Rattle.text.specs.Lines.{letter_x, print_line};
 ghost use Rattle.text.specs.WriteSteps.{Put};

@@ -1,4 +1,5 @@
 // A job as it is given: the tests of its tables, its terms, the kinds of its pins, and the first net of a source.
+#![tactic(auto)]
 
 // The most nets, and entries of table 6: one more.
 pub const NETS_MOST: usize = 512;
@@ -7,7 +8,7 @@ pub const FIRST_SINKS_MOST: usize = 513;
 
 // What a job asks beside its tables: the limit of iterations, the tuning of the tariff, and the rule by which an iteration takes nets: 1,
 // all; 2, all up to iteration `until`, only crowded ones after it; and whether delay is weighed. A refusal counts it as table 8.
-#[derive(Drop)]
+#[derive(Clone, Copy)]
 pub struct Terms {
     pub limit: u32,
     pub tuning: Tuning,

@@ -4,7 +4,7 @@ ghost use Rattle.job.specs.Tables.{source_kind, sink_kind, pins_of};
 ghost use Rattle.job.specs.Steps.{pin_kind};
 
 // Which pins of the nets a table has.
-#[derive(Drop)]
+#[derive(Clone, Copy)]
 pub enum Pin {
     Source,
     Sink,

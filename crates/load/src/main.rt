@@ -1,4 +1,6 @@
 // The program: a line `seed,nodes,nets` from standard input, the job's text or the line of its refusal to standard output.
+#![tactic(auto)]
+
 use libc::{STDIN_FILENO, STDOUT_FILENO};
 
 // Only the first 32 bytes of the input matter: a seed of 10 digits, two numbers of 6 and the commas after the first two are 24 bytes, and

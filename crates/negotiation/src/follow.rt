@@ -22,7 +22,7 @@ use search::PathAnswer;
 const FAR: u64 = 18446744073709551615;
 
 // What a pass over a path gives.
-#[derive(Drop)]
+#[derive(Clone, Copy)]
 pub enum PathCost {
     Cost(u64),
     Strays,

@@ -1,4 +1,6 @@
 // The negotiation: routes a job given as tables, and logs every turn.
+#![tactic(auto)]
+
 ghost use Rattle.std.specs.Prelude.{[], ◌≡◌, ◌*◌, ◌≤◌, length, take};
 ghost use Rattle.job.specs.Job.{job_of, nodes};
 ghost use Rattle.negotiation.specs.Routable.{Routable};
@@ -14,7 +16,7 @@ ghost use Rattle.negotiation.specs.Audit.{audit_reply_of};
 ghost use Rattle.negotiation.specs.Audited.{Audited};
 
 // How a run or an audit ends.
-#[derive(Drop)]
+#[derive(Clone, Copy)]
 pub enum Outcome {
     // Nothing is over capacity; of an audit: the log is sound.
     Accepted,
@@ -38,7 +40,7 @@ pub enum Outcome {
 
 // The answer: how the run ended, beside iteration, turns made and words used; and how many nodes the search that aims expanded in the turns
 // that the call logged, 0 with the plain one.
-#[derive(Drop)]
+#[derive(Clone, Copy)]
 pub struct RouteAnswer {
     pub outcome: Outcome,
     pub iteration: u32,
@@ -49,7 +51,7 @@ pub struct RouteAnswer {
 
 // The answer of an audit: its outcome, beside the turns before the one that it names, of a sound log all; the iterations that are whole;
 // and the nodes over capacity after the last of them. After a refusal all three are 0.
-#[derive(Drop)]
+#[derive(Clone, Copy)]
 pub struct AuditAnswer {
     pub outcome: Outcome,
     pub turns: u64,
@@ -58,7 +60,7 @@ pub struct AuditAnswer {
 }
 
 // Where a run starts.
-#[derive(Drop)]
+#[derive(Clone, Copy)]
 enum Start {
     // With iteration 1.
     Anew,

@@ -9,7 +9,7 @@ ghost use Rattle.negotiation.specs.OrderSteps.{SinksReady, TriedSinks};
 use price::Weighting;
 
 // The sinks that a turn tries stand in table 7 from one place to below another.
-#[derive(Drop)]
+#[derive(Clone, Copy)]
 pub struct Tried {
     pub weighting: Weighting,
     pub from: usize,

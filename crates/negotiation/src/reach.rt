@@ -6,7 +6,7 @@ use crate::flood;
 use search::NODES_MOST;
 
 // What the test of all nets finds.
-#[derive(Drop)]
+#[derive(Clone, Copy)]
 pub enum Reach {
     All,
     Missing { net: u32, place: u32 },

@@ -24,14 +24,14 @@ use search::NODES_MOST;
 
 // What is asked of a log besides that it follows the job: nothing where it is taken up, by an audit that each turn be a cheapest one. An
 // audit tells how many nodes were over capacity after the last whole iteration.
-#[derive(Drop)]
+#[derive(Clone, Copy)]
 pub struct Walk {
     pub audit: bool,
     pub over: u32,
 }
 
 // How far an audit came: turns and words before the record where it ended, whole iterations, nodes over capacity after the last of them.
-#[derive(Drop)]
+#[derive(Clone, Copy)]
 pub struct Told {
     pub turns: u64,
     pub words: usize,
@@ -40,7 +40,7 @@ pub struct Told {
 }
 
 // What a log comes to.
-#[derive(Drop)]
+#[derive(Clone, Copy)]
 pub enum Taken {
     // All of it follows: a run goes on from this tariff.
     On(Tariff),
@@ -53,7 +53,7 @@ pub enum Taken {
 }
 
 // What the next record of a net comes to.
-#[derive(Drop)]
+#[derive(Clone, Copy)]
 enum Tried {
     // It doesn't follow.
     Strays,

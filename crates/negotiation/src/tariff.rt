@@ -6,7 +6,7 @@ use price::Tuning;
 
 // What 01 calls the tariff: iteration, factor, turns made and words written. Request 2.13 adds which search makes the turns, and how many
 // nodes it has expanded.
-#[derive(Drop)]
+#[derive(Clone, Copy)]
 pub struct Tariff {
     pub iteration: u32,
     pub factor: u32,

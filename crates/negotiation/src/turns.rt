@@ -32,7 +32,7 @@ use price::{Tuning, Weighting};
 use search::{AimedPath, EDGES_MOST, FIRST_EDGES_MOST, NODES_MOST, PathAnswer};
 
 // What an attempt at a turn does.
-#[derive(Drop)]
+#[derive(Clone, Copy)]
 pub enum TurnMade {
     // No sink is left to be joined.
     Nothing,

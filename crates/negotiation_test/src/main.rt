@@ -1,5 +1,7 @@
 // The router and resume, a line for each case of the file stdin, which docs/CASES.md describes: the answer, then the whole work slice and
 // the whole log afterwards. The expected lines stand in the file stdout.
+#![tactic(auto)]
+
 use cases::{lines, read, show};
 use job::Terms;
 use negotiation::{Outcome, RouteAnswer};
@@ -61,7 +63,7 @@ fn answer(r: RouteAnswer, aimed: bool) {
 }
 
 // What line 2 says.
-#[derive(Drop)]
+#[derive(Clone, Copy)]
 struct Asked {
     terms: Terms,
     // Whether the search aims.

@@ -1,5 +1,7 @@
 // Prices: base cost, price of a node, present congestion factor, historical congestion.
 // Document 01, "Prices". Every public function takes every input that its types allow.
+#![tactic(auto)]
+
 ghost use Rattle.std.specs.Prelude.{◌≡◌, ◌≤◌, min};
 ghost use Rattle.price.specs.Bounds.{kind_most, factor_most, others_most, delay_most, criticality_most, price_most};
 ghost use Rattle.price.specs.Prices.{base_cost, next_factor, next_history};
@@ -39,14 +41,14 @@ const UP_MOST: u32 = 8;
 const STEP_MOST: u32 = 2;
 
 // What a call of the price answers: the price, or refusal 13 with the place from 0 of the first number beyond its bounds.
-#[derive(Drop)]
+#[derive(Clone, Copy)]
 pub enum PriceAnswer {
     Price(u64),
     Refused(u32),
 }
 
 // How the tariff is tuned: the factor in iteration 2, then factor × up / down, and by how much history grows for each net too many.
-#[derive(Drop)]
+#[derive(Clone, Copy)]
 pub struct Tuning {
     pub first: u32,
     pub up: u32,
@@ -55,7 +57,7 @@ pub struct Tuning {
 }
 
 // How a turn weighs delay: not at all, or for a sink of this criticality.
-#[derive(Drop)]
+#[derive(Clone, Copy)]
 pub struct Weighting {
     pub timed: bool,
     pub criticality: u32,

@@ -1,5 +1,7 @@
 // Prices, timed or not, factors, histories and tunings, a line for each case of the file stdin, which docs/CASES.md describes. The
 // expected lines stand in the file stdout.
+#![tactic(auto)]
+
 use cases::{lines, read, show};
 use price::{PriceAnswer, Tuning};
 

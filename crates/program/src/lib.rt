@@ -1,5 +1,7 @@
 // What the programs `router` and `picture` do: a job text from standard input, its routes in a style or the line of its refusal to
 // standard output.
+#![tactic(auto)]
+
 use flow::BYTES;
 use libc::{STDIN_FILENO, STDOUT_FILENO};
 use text::Style;

@@ -16,7 +16,7 @@ use price::Weighting;
 
 // How far the search has come: the least distance of a sink, and the least of a node, outside the tree, that had no estimate when it got
 // this distance. FAR where there is none.
-#[derive(Drop)]
+#[derive(Clone, Copy)]
 pub struct Reach {
     pub best: u64,
     pub low: u64,

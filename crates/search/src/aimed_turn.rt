@@ -21,7 +21,7 @@ use crate::{AimedPath, PathAnswer, aim, buckets, estimate, labels, turn, zeros};
 use price::Weighting;
 
 // The distance of the joined sink, FAR where none has a path, and how many nodes were expanded.
-#[derive(Drop)]
+#[derive(Clone, Copy)]
 struct Aimed {
     cost: u64,
     expanded: u32,

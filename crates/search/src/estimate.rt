@@ -16,7 +16,7 @@ use crate::{buckets, labels, queue};
 use price::Weighting;
 
 // How far the estimates have spread: so many nodes wait to spread theirs, and so many tree nodes have none.
-#[derive(Drop)]
+#[derive(Clone, Copy)]
 pub struct Front {
     pub count: usize,
     pub lacking: usize,

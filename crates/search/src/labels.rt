@@ -25,7 +25,7 @@ pub const FAR: u64 = 18446744073709551615;
 pub const GOAL: u64 = 18446744073709551614;
 
 // How far the labels have spread: the least label of a goal, FAR where none has one, and how many nodes wait.
-#[derive(Drop)]
+#[derive(Clone, Copy)]
 pub struct Reach {
     pub best: u64,
     pub count: usize,

@@ -1,4 +1,6 @@
 // The search: tests of tables 1 to 4 and 9, distances from a tree, and the cheapest path of one turn.
+#![tactic(auto)]
+
 ghost use Rattle.std.specs.Prelude.{List, [], ◌≡◌, ℕ, length};
 ghost use Rattle.price.specs.Test.{both};
 ghost use Rattle.search.specs.Block.{block_of, graph_of};
@@ -11,7 +13,7 @@ ghost use Rattle.search.specs.ByTarget.{ListsBack};
 ghost use Rattle.search.specs.AimedReplies.{aimed_path_reply_of, aimed_path_reply};
 
 // What a call of the search answers: the distances stand in the work slice, or one of 01's refusals.
-#[derive(Drop)]
+#[derive(Clone, Copy)]
 pub enum SearchAnswer {
     // Nothing is refused: the distances stand at the beginning of the work slice.
     Done,
@@ -26,7 +28,7 @@ pub enum SearchAnswer {
 }
 
 // What a call of the cheapest path answers.
-#[derive(Drop)]
+#[derive(Clone, Copy)]
 pub enum PathAnswer {
     // The sink at this place is joined at this cost, by a path of this many nodes at the beginning of the work slice.
     Joins { place: u32, cost: u64, length: u32 },
@@ -40,7 +42,7 @@ pub enum PathAnswer {
 }
 
 // What a call of the cheapest path by the search that aims answers: the same, and how many nodes it expanded.
-#[derive(Drop)]
+#[derive(Clone, Copy)]
 pub struct AimedPath {
     pub answer: PathAnswer,
     pub expanded: u32,

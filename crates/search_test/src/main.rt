@@ -1,5 +1,7 @@
 // The search, timed or not, and the cheapest path, a line each, or that path by the search that aims, for every case of the file stdin,
 // which docs/CASES.md describes: the answer and the whole work slice afterwards. The expected lines stand in the file stdout.
+#![tactic(auto)]
+
 use cases::{lines, read, show};
 use price::Weighting;
 use search::{AimedPath, PathAnswer, SearchAnswer};

@@ -10,7 +10,7 @@ use crate::fields::LineFields;
 use crate::head::Lines;
 
 // The two nodes of an E line and the place after it, or the refusal's number.
-#[derive(Drop)]
+#[derive(Clone, Copy)]
 pub enum EdgeLine {
     Edge { from: u16, to: u16, next: usize },
     Refused(u32),

@@ -8,14 +8,14 @@ ghost use Rattle.text.specs.Steps.{comma_field, field_at, FieldPlace, no_fields,
 use crate::decimal::LF;
 
 // "Each field reading gives a number with the next place, or a fault."
-#[derive(Drop)]
+#[derive(Clone, Copy)]
 pub enum Field {
     Number { value: u32, next: usize },
     Fault,
 }
 
 // The values of a line's fields, 0 past their count, and the place after its LF.
-#[derive(Drop)]
+#[derive(Clone, Copy)]
 pub enum LineFields {
     Fields {
         first: u32,
@@ -28,7 +28,7 @@ pub enum LineFields {
 }
 
 // The job text along with how far the reader has come.
-#[derive(Drop)]
+#[derive(Clone, Copy)]
 pub struct JobReader<'a> {
     pub text: &'a [u8],
     pub at: usize,

@@ -10,14 +10,14 @@ use crate::{bounds, fields, optional};
 use job::Terms;
 
 // The place and number of the line after those that were read, or the refusal's number and its line.
-#[derive(Drop)]
+#[derive(Clone, Copy)]
 pub enum Lines {
     Read { at: usize, line: usize },
     Stopped { number: u32, line: usize },
 }
 
 // The numbers of the F line and the place after it, or the refusal's number.
-#[derive(Drop)]
+#[derive(Clone, Copy)]
 pub enum Head {
     Counts {
         nodes: u32,
@@ -31,7 +31,7 @@ pub enum Head {
 
 // The counts and the terms of the lines before the nodes, with the place and number of the line after these;
 // or the refusal's number and its line.
-#[derive(Drop)]
+#[derive(Clone, Copy)]
 pub enum HeadRead {
     Counts {
         nodes: usize,

@@ -1,4 +1,6 @@
 // The job text before the router, and the routes text or the picture after it.
+#![tactic(auto)]
+
 ghost use Rattle.std.specs.Prelude.{[], ◌∷◌, ◌≡◌, ◌≤◌, length};
 ghost use Rattle.search.specs.Replies.{sinks_most};
 ghost use Rattle.price.specs.Bounds.{nodes_most};
@@ -12,7 +14,7 @@ ghost use Rattle.negotiation.specs.Records.{decode};
 ghost use Rattle.job.specs.Tables.{nets_most};
 
 // What the reader answers.
-#[derive(Drop)]
+#[derive(Clone, Copy)]
 pub enum ReadAnswer {
     // The counts of the job, which the tables now hold, and its terms.
     Job {
@@ -38,14 +40,14 @@ pub enum ReadAnswer {
 }
 
 // The two texts of a log: the lines of its routes, or their picture.
-#[derive(Drop)]
+#[derive(Clone, Copy)]
 pub enum Style {
     Lines,
     Picture,
 }
 
 // What the writer answers.
-#[derive(Drop)]
+#[derive(Clone, Copy)]
 pub enum WriteAnswer {
     // This many bytes are written.
     Written(usize),

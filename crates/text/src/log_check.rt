@@ -8,7 +8,7 @@ ghost use Rattle.text.specs.WriteSteps.{next_at, net_marked, named_by};
 use crate::bounds;
 
 // What the test of a log answers.
-#[derive(Drop)]
+#[derive(Clone, Copy)]
 pub enum LogCheck {
     // The last record's iteration, and how many records there are.
     Sound { iteration: u32, turns: usize },

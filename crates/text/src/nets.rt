@@ -13,14 +13,14 @@ use crate::{bounds, fields};
 use search::{NODES_MOST, SINKS_MOST};
 
 // The node of an S line and the place after it, or the refusal's number.
-#[derive(Drop)]
+#[derive(Clone, Copy)]
 pub enum PinLine {
     Pin { node: u16, next: usize },
     Refused(u32),
 }
 
 // The node and the criticality of a T line and the place after it, or the refusal's number. In an untimed job the criticality is 0.
-#[derive(Drop)]
+#[derive(Clone, Copy)]
 pub enum SinkLine {
     Sink {
         node: u16,
@@ -31,7 +31,7 @@ pub enum SinkLine {
 }
 
 // How far the nets are read: the next place and its line, nets and sinks so far, and the sinks before the last net's own.
-#[derive(Drop)]
+#[derive(Clone, Copy)]
 pub struct NetCursor {
     pub at: usize,
     pub line: usize,
@@ -41,14 +41,14 @@ pub struct NetCursor {
 }
 
 // How far the nets are read after one line more, or the refusal's number.
-#[derive(Drop)]
+#[derive(Clone, Copy)]
 pub enum NetStep {
     On(NetCursor),
     Stopped(u32),
 }
 
 // The sinks of all nets and the number of the line after them, or the refusal's number and its line.
-#[derive(Drop)]
+#[derive(Clone, Copy)]
 pub enum NetsRead {
     Read { sinks: usize, line: usize },
     Stopped { number: u32, line: usize },

@@ -9,7 +9,7 @@ use crate::head::Lines;
 use crate::{bounds, fields};
 
 // The numbers of an N line and the place after it, or the refusal's number. In an untimed job the delay is 0.
-#[derive(Drop)]
+#[derive(Clone, Copy)]
 pub enum NodeLine {
     Node {
         kind: u8,

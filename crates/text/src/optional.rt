@@ -9,7 +9,7 @@ use crate::{fields, rule, timed, tuning};
 use job::Terms;
 
 // The terms with the place and number of the line after those that were read, or the refusal's number and its line.
-#[derive(Drop)]
+#[derive(Clone, Copy)]
 pub enum TermsRead {
     Read {
         terms: Terms,
@@ -23,7 +23,7 @@ pub enum TermsRead {
 }
 
 // What stands at the place of a line that may be left out: no line of this letter, one of wrong shape, or one with this place after it.
-#[derive(Drop)]
+#[derive(Clone, Copy)]
 pub enum Shape {
     LeftOut,
     Malformed,
@@ -31,7 +31,7 @@ pub enum Shape {
 }
 
 // Such a line with the values of its fields, 0 past their count and where they are missing.
-#[derive(Drop)]
+#[derive(Clone, Copy)]
 pub struct OptionalLine {
     pub shape: Shape,
     pub first: u32,

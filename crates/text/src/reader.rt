@@ -11,7 +11,7 @@ use crate::{edges, head, nets, nodes};
 use job::Terms;
 
 // The counts of a job that was read and the number of the line after its last, or the refusal's number and its line.
-#[derive(Drop)]
+#[derive(Clone, Copy)]
 pub enum JobLines {
     Counts {
         nodes: usize,

@@ -10,7 +10,7 @@ use crate::{fields, optional};
 use job::Terms;
 
 // What stands at the place of the V line, with its rule and the last iteration before rule 2 is followed.
-#[derive(Drop)]
+#[derive(Clone, Copy)]
 pub struct RuleLine {
     pub shape: Shape,
     pub rule: u32,

@@ -1,5 +1,7 @@
 // The reader and the writer, a line for each case of the file stdin, which docs/CASES.md describes: the answer, then every table, or the
 // whole routes buffer, afterwards. The expected lines stand in the file stdout.
+#![tactic(auto)]
+
 use cases::{lines, read, show};
 use job::Terms;
 use price::Tuning;

@@ -13,7 +13,7 @@ use search::NODES_MOST;
 const NETS_MOST: u64 = 512;
 
 // What the test of the block and of the counts handed in finds.
-#[derive(Drop)]
+#[derive(Clone, Copy)]
 pub enum CountsTest {
     Fine,
     // 5: this table breaks its rule.

@@ -1,4 +1,6 @@
 // The use of wires over many jobs: counts of uses by kind, to which logs are added, and their text.
+#![tactic(auto)]
+
 ghost use Rattle.std.specs.Prelude.{true, [], ◌≡◌};
 ghost use Rattle.search.specs.Block.{block_of};
 ghost use Rattle.search.specs.Tables.{kinds_sound};
@@ -12,7 +14,7 @@ pub const KINDS: usize = 54;
 const LOGS_MOST: u64 = 65535;
 
 // What adding a log answers.
-#[derive(Drop)]
+#[derive(Clone, Copy)]
 pub enum AddAnswer {
     // The log is added, and the counts now have this many logs.
     Added(u64),
@@ -27,7 +29,7 @@ pub enum AddAnswer {
 }
 
 // What printing answers.
-#[derive(Drop)]
+#[derive(Clone, Copy)]
 pub enum PrintAnswer {
     // This many bytes are written.
     Written(usize),
