@@ -28,11 +28,10 @@ pub fn add_log(
     log: &[u32],
 ) -> AddAnswer
     requires { kind_count ≤ length counts.old }
-    ensures* { do
-      let block = block_of kind.now capacity.now first_edge.now edge_target.now
-      let reply = add_reply block (use_counts_of (take kind_count counts.old) logs) log.now
-      ⌜ (add_reply_of logs result (take kind_count counts.new) ≡ reply)
-          × (drop kind_count counts.new ≡ drop kind_count counts.old) ⌝ }
+    ensures { let block = block_of kind.now capacity.now first_edge.now edge_target.now in
+        let reply = add_reply block (use_counts_of (take kind_count counts.old) logs) log.now in
+        (add_reply_of logs result (take kind_count counts.new) ≡ reply)
+        × (drop kind_count counts.new ≡ drop kind_count counts.old) }
 {
     let mut all = [0u64; KINDS];
     copy_counts(counts, &mut all);
@@ -52,10 +51,9 @@ pub fn write_uses(
     buffer: &mut [u8],
 ) -> PrintAnswer
     requires { kind_count ≤ length counts.now }
-    ensures* { do
-      let block = block_of kind.now capacity.now first_edge.now edge_target.now
-      ⌜ print_reply_of result buffer.new
-          ≡ print_reply block (use_counts_of (take kind_count counts.now) logs) buffer.old ⌝ }
+    ensures { let block = block_of kind.now capacity.now first_edge.now edge_target.now in
+        print_reply_of result buffer.new
+        ≡ print_reply block (use_counts_of (take kind_count counts.now) logs) buffer.old }
 {
     let mut all = [0u64; KINDS];
     copy_counts(counts, &mut all);

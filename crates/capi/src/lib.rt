@@ -79,11 +79,10 @@ pub extern "C" fn arvumnao_search(
     in_tree: &[u8],
     out: &mut [u64],
 ) -> u32
-    ensures* { do
-      let block = block_of kind.now capacity.now first_edge.now edge_target.now
-      let congestion = congestion_of factor history.now others.now
-      ⌜ search_done (call_of result out.new) work.new
-          ≡ search_call block congestion in_tree.now work.old out.old ⌝ }
+    ensures { let block = block_of kind.now capacity.now first_edge.now edge_target.now in
+        let congestion = congestion_of factor history.now others.now in
+        search_done (call_of result out.new) work.new
+        ≡ search_call block congestion in_tree.now work.old out.old }
 {
     if out.len() < OUT_ENTRIES {
         return 0;
@@ -118,11 +117,10 @@ pub extern "C" fn arvumnao_timed_search(
     in_tree: &[u8],
     out: &mut [u64],
 ) -> u32
-    ensures* { do
-      let block = block_of kind.now capacity.now first_edge.now edge_target.now
-      let congestion = timed_congestion criticality delay.now factor history.now others.now
-      ⌜ search_done (call_of result out.new) work.new
-          ≡ timed_search_call block congestion in_tree.now work.old out.old ⌝ }
+    ensures { let block = block_of kind.now capacity.now first_edge.now edge_target.now in
+        let congestion = timed_congestion criticality delay.now factor history.now others.now in
+        search_done (call_of result out.new) work.new
+        ≡ timed_search_call block congestion in_tree.now work.old out.old }
 {
     if out.len() < OUT_ENTRIES {
         return 0;
@@ -191,13 +189,12 @@ fn route_by(
     log: &mut [u32],
     out: &mut [u64],
 ) -> u32
-    ensures* { do
-      let job = job_of kind.now capacity.now first_edge.now edge_target.now
-          source.now first_sink.now sink.now delay.now criticality.now
-          (terms_of terms.now)
-      let reply = route_reply job work.old log.old
-      ⌜ route_done (call_of result out.new) work.new log.new
-          ≡ counted_call aimed job [] reply work.old log.old out.old ⌝ }
+    ensures { let job = job_of kind.now capacity.now first_edge.now edge_target.now
+        source.now first_sink.now sink.now delay.now criticality.now
+        (terms_of terms.now) in
+        let reply = route_reply job work.old log.old in
+        route_done (call_of result out.new) work.new log.new
+        ≡ counted_call aimed job [] reply work.old log.old out.old }
 {
     if out.len() < OUT_ENTRIES {
         return 0;
@@ -238,12 +235,11 @@ pub extern "C" fn arvumnao_route(
     log: &mut [u32],
     out: &mut [u64],
 ) -> u32
-    ensures* { do
-      let job = job_of kind.now capacity.now first_edge.now edge_target.now
-          source.now first_sink.now sink.now delay.now criticality.now
-          (terms_of terms.now)
-      ⌜ route_done (call_of result out.new) work.new log.new
-          ≡ route_call job work.old log.old out.old ⌝ }
+    ensures { let job = job_of kind.now capacity.now first_edge.now edge_target.now
+        source.now first_sink.now sink.now delay.now criticality.now
+        (terms_of terms.now) in
+        route_done (call_of result out.new) work.new log.new
+        ≡ route_call job work.old log.old out.old }
 {
     route_by(
         kind,
@@ -280,12 +276,11 @@ pub extern "C" fn arvumnao_route_aimed(
     log: &mut [u32],
     out: &mut [u64],
 ) -> u32
-    ensures* { do
-      let job = job_of kind.now capacity.now first_edge.now edge_target.now
-          source.now first_sink.now sink.now delay.now criticality.now
-          (terms_of terms.now)
-      ⌜ route_done (call_of result out.new) work.new log.new
-          ≡ route_aimed_call job work.old log.old out.old ⌝ }
+    ensures { let job = job_of kind.now capacity.now first_edge.now edge_target.now
+        source.now first_sink.now sink.now delay.now criticality.now
+        (terms_of terms.now) in
+        route_done (call_of result out.new) work.new log.new
+        ≡ route_aimed_call job work.old log.old out.old }
 {
     route_by(
         kind,
@@ -323,14 +318,13 @@ fn resume_by(
     log: &mut [u32],
     out: &mut [u64],
 ) -> u32
-    ensures* { do
-      let job = job_of kind.now capacity.now first_edge.now edge_target.now
-          source.now first_sink.now sink.now delay.now criticality.now
-          (terms_of terms.now)
-      let lent = decode (take used log.old)
-      let reply = resume_reply job used work.old log.old
-      ⌜ route_done (call_of result out.new) work.new log.new
-          ≡ counted_call aimed job lent reply work.old log.old out.old ⌝ }
+    ensures { let job = job_of kind.now capacity.now first_edge.now edge_target.now
+        source.now first_sink.now sink.now delay.now criticality.now
+        (terms_of terms.now) in
+        let lent = decode (take used log.old) in
+        let reply = resume_reply job used work.old log.old in
+        route_done (call_of result out.new) work.new log.new
+        ≡ counted_call aimed job lent reply work.old log.old out.old }
 {
     if out.len() < OUT_ENTRIES {
         return 0;
@@ -373,12 +367,11 @@ pub extern "C" fn arvumnao_resume(
     log: &mut [u32],
     out: &mut [u64],
 ) -> u32
-    ensures* { do
-      let job = job_of kind.now capacity.now first_edge.now edge_target.now
-          source.now first_sink.now sink.now delay.now criticality.now
-          (terms_of terms.now)
-      ⌜ route_done (call_of result out.new) work.new log.new
-          ≡ resume_call job used work.old log.old out.old ⌝ }
+    ensures { let job = job_of kind.now capacity.now first_edge.now edge_target.now
+        source.now first_sink.now sink.now delay.now criticality.now
+        (terms_of terms.now) in
+        route_done (call_of result out.new) work.new log.new
+        ≡ resume_call job used work.old log.old out.old }
 {
     resume_by(
         kind,
@@ -417,12 +410,11 @@ pub extern "C" fn arvumnao_resume_aimed(
     log: &mut [u32],
     out: &mut [u64],
 ) -> u32
-    ensures* { do
-      let job = job_of kind.now capacity.now first_edge.now edge_target.now
-          source.now first_sink.now sink.now delay.now criticality.now
-          (terms_of terms.now)
-      ⌜ route_done (call_of result out.new) work.new log.new
-          ≡ resume_aimed_call job used work.old log.old out.old ⌝ }
+    ensures { let job = job_of kind.now capacity.now first_edge.now edge_target.now
+        source.now first_sink.now sink.now delay.now criticality.now
+        (terms_of terms.now) in
+        route_done (call_of result out.new) work.new log.new
+        ≡ resume_aimed_call job used work.old log.old out.old }
 {
     resume_by(
         kind,
@@ -461,12 +453,11 @@ pub extern "C" fn arvumnao_audit(
     log: &[u32],
     out: &mut [u64],
 ) -> u32
-    ensures* { do
-      let job = job_of kind.now capacity.now first_edge.now edge_target.now
-          source.now first_sink.now sink.now delay.now criticality.now
-          (terms_of terms.now)
-      ⌜ audit_done (call_of result out.new) work.new
-          ≡ audit_call job used work.old log.now out.old ⌝ }
+    ensures { let job = job_of kind.now capacity.now first_edge.now edge_target.now
+        source.now first_sink.now sink.now delay.now criticality.now
+        (terms_of terms.now) in
+        audit_done (call_of result out.new) work.new
+        ≡ audit_call job used work.old log.now out.old }
 {
     if out.len() < OUT_ENTRIES {
         return 0;
@@ -505,12 +496,11 @@ pub extern "C" fn arvumnao_read(
     criticality: &mut [u8],
     out: &mut [u64],
 ) -> u32
-    ensures* { do
-      let tables = tables_of kind.old capacity.old first_edge.old edge_target.old
-          source.old first_sink.old sink.old delay.old criticality.old
-      let left = tables_of kind.new capacity.new first_edge.new edge_target.new
-          source.new first_sink.new sink.new delay.new criticality.new
-      ⌜ read_done (call_of result out.new) left ≡ read_call text.now tables out.old ⌝ }
+    ensures { let tables = tables_of kind.old capacity.old first_edge.old edge_target.old
+        source.old first_sink.old sink.old delay.old criticality.old in
+        let left = tables_of kind.new capacity.new first_edge.new edge_target.new
+        source.new first_sink.new sink.new delay.new criticality.new in
+        read_done (call_of result out.new) left ≡ read_call text.now tables out.old }
 {
     if out.len() < OUT_ENTRIES {
         return 0;
@@ -532,10 +522,9 @@ pub extern "C" fn arvumnao_read(
 
 // Writes either text of a log, whose nets are those of table 5.
 fn write_style(style: Style, source: &[u16], log: &[u32], buffer: &mut [u8], out: &mut [u64]) -> u32
-    ensures* { do
-      let done = write_done (call_of result out.new) buffer.new
-      let reply = style_reply style source.now log.now buffer.old
-      ⌜ done ≡ written_call reply buffer.old out.old ⌝ }
+    ensures { let done = write_done (call_of result out.new) buffer.new in
+        let reply = style_reply style source.now log.now buffer.old in
+        done ≡ written_call reply buffer.old out.old }
 {
     if out.len() < OUT_ENTRIES {
         return 0;
@@ -551,9 +540,8 @@ pub extern "C" fn arvumnao_write(
     buffer: &mut [u8],
     out: &mut [u64],
 ) -> u32
-    ensures* { do
-      let done = write_done (call_of result out.new) buffer.new
-      ⌜ done ≡ write_call source.now log.now buffer.old out.old ⌝ }
+    ensures { let done = write_done (call_of result out.new) buffer.new in
+        done ≡ write_call source.now log.now buffer.old out.old }
 {
     write_style(Style::Lines, source, log, buffer, out)
 }
@@ -566,9 +554,8 @@ pub extern "C" fn arvumnao_dot(
     buffer: &mut [u8],
     out: &mut [u64],
 ) -> u32
-    ensures* { do
-      let done = write_done (call_of result out.new) buffer.new
-      ⌜ done ≡ dot_call source.now log.now buffer.old out.old ⌝ }
+    ensures { let done = write_done (call_of result out.new) buffer.new in
+        done ≡ dot_call source.now log.now buffer.old out.old }
 {
     write_style(Style::Picture, source, log, buffer, out)
 }
@@ -585,10 +572,9 @@ pub extern "C" fn arvumnao_uses_add(
     log: &[u32],
     out: &mut [u64],
 ) -> u32
-    ensures* { do
-      let block = block_of kind.now capacity.now first_edge.now edge_target.now
-      ⌜ add_done (call_of result out.new) counts.new
-          ≡ add_call block counts.old logs log.now out.old ⌝ }
+    ensures { let block = block_of kind.now capacity.now first_edge.now edge_target.now in
+        add_done (call_of result out.new) counts.new
+        ≡ add_call block counts.old logs log.now out.old }
 {
     if counts.len() < KINDS {
         return 0;
@@ -612,10 +598,9 @@ pub extern "C" fn arvumnao_uses_write(
     buffer: &mut [u8],
     out: &mut [u64],
 ) -> u32
-    ensures* { do
-      let block = block_of kind.now capacity.now first_edge.now edge_target.now
-      ⌜ write_done (call_of result out.new) buffer.new
-          ≡ uses_call block counts.now logs buffer.old out.old ⌝ }
+    ensures { let block = block_of kind.now capacity.now first_edge.now edge_target.now in
+        write_done (call_of result out.new) buffer.new
+        ≡ uses_call block counts.now logs buffer.old out.old }
 {
     if counts.len() < KINDS {
         return 0;

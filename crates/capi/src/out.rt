@@ -34,9 +34,8 @@ fn clear(out: &mut [u64])
 // Writes a refusal's three numbers and up to three of the call's own, and answers 1.
 fn put_numbers(out: &mut [u64], number: u64, first: u64, second: u64, a: u64, b: u64, c: u64) -> u32
     requires { out_entries ≤ length out.old }
-    ensures* { do
-      let after = out_with (number ∷ first ∷ second ∷ []) (a ∷ b ∷ c ∷ []) out.old
-      ⌜ call_of result out.new ≡ call_of 1 after ⌝ }
+    ensures { let after = out_with (number ∷ first ∷ second ∷ []) (a ∷ b ∷ c ∷ []) out.old in
+        call_of result out.new ≡ call_of 1 after }
 {
     clear(out);
     out[0] = number;
@@ -51,9 +50,8 @@ fn put_numbers(out: &mut [u64], number: u64, first: u64, second: u64, a: u64, b:
 // Writes the numbers of a price.
 pub fn put_price(answer: PriceAnswer, out: &mut [u64]) -> u32
     requires { out_entries ≤ length out.old }
-    ensures* { do
-      let after = out_with (price_reply_of answer).refusal ((price_reply_of answer).price ∷ []) out.old
-      ⌜ call_of result out.new ≡ call_of 1 after ⌝ }
+    ensures { let after = out_with (price_reply_of answer).refusal ((price_reply_of answer).price ∷ []) out.old in
+        call_of result out.new ≡ call_of 1 after }
 {
     match answer {
         PriceAnswer::Price(p) => put_numbers(out, 0, 0, 0, p, 0, 0),
@@ -86,9 +84,8 @@ fn put_outcome(
     out: &mut [u64],
 ) -> u32
     requires { out_entries ≤ length out.old }
-    ensures* { do
-      let after = out_with (route_refusal outcome iteration turns) (a ∷ b ∷ c ∷ []) out.old
-      ⌜ call_of result out.new ≡ call_of 1 after ⌝ }
+    ensures { let after = out_with (route_refusal outcome iteration turns) (a ∷ b ∷ c ∷ []) out.old in
+        call_of result out.new ≡ call_of 1 after }
 {
     match outcome {
         Outcome::Accepted => put_numbers(out, 0, 0, 0, a, b, c),
@@ -110,10 +107,9 @@ fn put_outcome(
 // Writes the numbers of a routing.
 pub fn put_routed(r: RouteAnswer, out: &mut [u64]) -> u32
     requires { out_entries ≤ length out.old }
-    ensures* { do
-      let refusal = route_refusal r.outcome r.iteration r.turns
-      let after = out_with refusal (r.iteration ∷ r.turns ∷ r.used ∷ r.expanded ∷ []) out.old
-      ⌜ call_of result out.new ≡ call_of 1 after ⌝ }
+    ensures { let refusal = route_refusal r.outcome r.iteration r.turns in
+        let after = out_with refusal (r.iteration ∷ r.turns ∷ r.used ∷ r.expanded ∷ []) out.old in
+        call_of result out.new ≡ call_of 1 after }
 {
     let outcome = r.outcome;
     let i = r.iteration as u64;
@@ -136,10 +132,9 @@ fn least_of(outcome: Outcome) -> u64
 // Writes the numbers of an audit.
 pub fn put_audit(r: AuditAnswer, out: &mut [u64]) -> u32
     requires { out_entries ≤ length out.old }
-    ensures* { do
-      let told = route_refusal r.outcome 0 0
-      let after = out_with told (r.turns ∷ r.whole ∷ r.over ∷ get_or told 3 0 ∷ []) out.old
-      ⌜ call_of result out.new ≡ call_of 1 after ⌝ }
+    ensures { let told = route_refusal r.outcome 0 0 in
+        let after = out_with told (r.turns ∷ r.whole ∷ r.over ∷ get_or told 3 0 ∷ []) out.old in
+        call_of result out.new ≡ call_of 1 after }
 {
     let outcome = r.outcome;
     let least = least_of(outcome);
@@ -165,9 +160,8 @@ fn put_job(
     terms: Terms,
 ) -> u32
     requires { out_entries ≤ length out.old }
-    ensures* { do
-      let numbers = nodes ∷ edges ∷ nets ∷ sinks ∷ terms_numbers terms
-      ⌜ call_of result out.new ≡ call_of 1 (out_with [] numbers out.old) ⌝ }
+    ensures { let numbers = nodes ∷ edges ∷ nets ∷ sinks ∷ terms_numbers terms in
+        call_of result out.new ≡ call_of 1 (out_with [] numbers out.old) }
 {
     clear(out);
     out[3] = nodes as u64;
@@ -188,9 +182,8 @@ fn put_job(
 // Writes the numbers of a reading.
 pub fn put_read(answer: ReadAnswer, out: &mut [u64]) -> u32
     requires { out_entries ≤ length out.old }
-    ensures* { do
-      let after = out_with (read_refusal answer) (read_numbers answer) out.old
-      ⌜ call_of result out.new ≡ call_of 1 after ⌝ }
+    ensures { let after = out_with (read_refusal answer) (read_numbers answer) out.old in
+        call_of result out.new ≡ call_of 1 after }
 {
     match answer {
         ReadAnswer::Job {
@@ -213,9 +206,8 @@ pub fn put_read(answer: ReadAnswer, out: &mut [u64]) -> u32
 // Writes the numbers of a writing.
 pub fn put_written(answer: WriteAnswer, out: &mut [u64]) -> u32
     requires { out_entries ≤ length out.old }
-    ensures* { do
-      let after = out_with (write_refusal answer) (written_bytes answer ∷ []) out.old
-      ⌜ call_of result out.new ≡ call_of 1 after ⌝ }
+    ensures { let after = out_with (write_refusal answer) (written_bytes answer ∷ []) out.old in
+        call_of result out.new ≡ call_of 1 after }
 {
     match answer {
         WriteAnswer::Written(bytes) => put_numbers(out, 0, 0, 0, bytes as u64, 0, 0),
@@ -228,9 +220,8 @@ pub fn put_written(answer: WriteAnswer, out: &mut [u64]) -> u32
 // Writes the numbers of a call that adds a log to counts of this many logs.
 pub fn put_added(answer: AddAnswer, logs: u64, out: &mut [u64]) -> u32
     requires { out_entries ≤ length out.old }
-    ensures* { do
-      let after = out_with (add_refusal answer) (logs_after logs answer ∷ []) out.old
-      ⌜ call_of result out.new ≡ call_of 1 after ⌝ }
+    ensures { let after = out_with (add_refusal answer) (logs_after logs answer ∷ []) out.old in
+        call_of result out.new ≡ call_of 1 after }
 {
     match answer {
         AddAnswer::Added(after) => put_numbers(out, 0, 0, 0, after, 0, 0),
@@ -244,9 +235,8 @@ pub fn put_added(answer: AddAnswer, logs: u64, out: &mut [u64]) -> u32
 // Writes the numbers of a call that prints counts.
 pub fn put_printed(answer: PrintAnswer, out: &mut [u64]) -> u32
     requires { out_entries ≤ length out.old }
-    ensures* { do
-      let after = out_with (print_refusal answer) (printed_bytes answer ∷ []) out.old
-      ⌜ call_of result out.new ≡ call_of 1 after ⌝ }
+    ensures { let after = out_with (print_refusal answer) (printed_bytes answer ∷ []) out.old in
+        call_of result out.new ≡ call_of 1 after }
 {
     match answer {
         PrintAnswer::Written(bytes) => put_numbers(out, 0, 0, 0, bytes as u64, 0, 0),

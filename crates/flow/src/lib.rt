@@ -102,11 +102,10 @@ fn route_job(
     log: &mut [u32],
     routes: &mut [u8],
 ) -> RunAnswer
-    ensures* { do
-      let job = job_of kind.now capacity.now first_edge.now edge_target.now
-          source.now first_sink.now sink.now delay.now criticality.now terms
-      ⌜ ((t : Tables) → run_reply_of result (lent_of t work.new log.new routes.new)
-          ≡ route_run style job t work.old log.old routes.old) ⌝ }
+    ensures { let job = job_of kind.now capacity.now first_edge.now edge_target.now
+        source.now first_sink.now sink.now delay.now criticality.now terms in
+        ((t : Tables) → run_reply_of result (lent_of t work.new log.new routes.new)
+        ≡ route_run style job t work.old log.old routes.old) }
 {
     let r = negotiation::route(
         kind,
@@ -193,14 +192,13 @@ pub fn run(
     log: &mut [u32],
     routes: &mut [u8],
 ) -> RunAnswer
-    ensures* answers { do
-      let tables = tables_of kind.old capacity.old first_edge.old edge_target.old
-          source.old first_sink.old sink.old delay.old criticality.old
-      let left = tables_of kind.new capacity.new first_edge.new edge_target.new
-          source.new first_sink.new sink.new delay.new criticality.new
-      let lent = lent_of tables work.old log.old routes.old
-      let after = lent_of left work.new log.new routes.new
-      ⌜ run_reply_of result after ≡ run_reply style text.now lent ⌝ }
+    ensures answers { let tables = tables_of kind.old capacity.old first_edge.old edge_target.old
+        source.old first_sink.old sink.old delay.old criticality.old in
+        let left = tables_of kind.new capacity.new first_edge.new edge_target.new
+        source.new first_sink.new sink.new delay.new criticality.new in
+        let lent = lent_of tables work.old log.old routes.old in
+        let after = lent_of left work.new log.new routes.new in
+        run_reply_of result after ≡ run_reply style text.now lent }
 {
     match text::read_job(
         text,
@@ -299,14 +297,13 @@ pub fn respond(
     log: &mut [u32],
     routes: &mut [u8],
 ) -> usize
-    ensures* answers { do
-      let tables = tables_of kind.old capacity.old first_edge.old edge_target.old
-          source.old first_sink.old sink.old delay.old criticality.old
-      let left = tables_of kind.new capacity.new first_edge.new edge_target.new
-          source.new first_sink.new sink.new delay.new criticality.new
-      let lent = lent_of tables work.old log.old routes.old
-      let after = lent_of left work.new log.new routes.new
-      ⌜ response_of result after ≡ response style input.now lent ⌝ }
+    ensures answers { let tables = tables_of kind.old capacity.old first_edge.old edge_target.old
+        source.old first_sink.old sink.old delay.old criticality.old in
+        let left = tables_of kind.new capacity.new first_edge.new edge_target.new
+        source.new first_sink.new sink.new delay.new criticality.new in
+        let lent = lent_of tables work.old log.old routes.old in
+        let after = lent_of left work.new log.new routes.new in
+        response_of result after ≡ response style input.now lent }
 {
     if BYTES < input.len() {
         return refusals::write_refusal(12, BYTES as u64, routes);
@@ -332,9 +329,8 @@ pub fn respond(
 
 // The same with what the program lends.
 pub fn answer(style: Style, input: &[u8], routes: &mut [u8; BYTES]) -> usize
-    ensures* answers { do
-      let shown = shown_in (response style input.now (program_lent routes.old))
-      ⌜ place_reply_of result routes.new ≡ shown ⌝ }
+    ensures answers { let shown = shown_in (response style input.now (program_lent routes.old)) in
+        place_reply_of result routes.new ≡ shown }
 {
     let mut kind = [0u8; NODES];
     let mut capacity = [0u8; NODES];

@@ -12,9 +12,8 @@ pub fn write_refusal(number: u32, value: u64, buffer: &mut [u8]) -> usize
 
 // The same with two numbers beside its own.
 pub fn write_refusal_of_two(number: u32, first: u64, second: u64, buffer: &mut [u8]) -> usize
-    ensures* { do
-      let numbers = number ∷ first ∷ second ∷ []
-      ⌜ place_reply_of result buffer.new ≡ line_reply letter_x numbers 0 buffer.old ⌝ }
+    ensures { let numbers = number ∷ first ∷ second ∷ [] in
+        place_reply_of result buffer.new ≡ line_reply letter_x numbers 0 buffer.old }
 {
     text::print_line(b'X', &[number as u64, first, second], buffer, 0)
 }

@@ -44,7 +44,7 @@ fn is_digit(b: u8) -> bool
 // A number that begins with this digit continues with at most this many more.
 fn further_digits(input: &[u8], at: usize, first: u64, more: u32) -> Field
     requires { (at ≤ length input.now) × (first < 10) × (more ≤ 9) }
-    ensures result_value { asked_field_at input.now result ≡ digits_after more first (drop at input.now) }
+    ensures value { asked_field_at input.now result ≡ digits_after more first (drop at input.now) }
     ensures asked_field_place { AskedFieldPlace input.now result }
 {
     let mut value = first;
@@ -77,7 +77,7 @@ fn further_digits(input: &[u8], at: usize, first: u64, more: u32) -> Field
 // A number without a leading zero, of at most this many digits after its first.
 fn number(input: &[u8], at: usize, more: u32) -> Field
     requires { more ≤ 9 }
-    ensures result_value { asked_field_at input.now result ≡ number_up_to more (drop at input.now) }
+    ensures value { asked_field_at input.now result ≡ number_up_to more (drop at input.now) }
     ensures asked_field_place { AskedFieldPlace input.now result }
 {
     if input.len() <= at {
@@ -99,7 +99,7 @@ fn number(input: &[u8], at: usize, more: u32) -> Field
 // A whole field whose number lies within these bounds.
 fn whole_field(input: &[u8], at: usize, more: u32, low: u64, high: u64) -> Field
     requires { more ≤ 9 }
-    ensures result_value { asked_field_at input.now result ≡ whole_field more low high (drop at input.now) }
+    ensures value { asked_field_at input.now result ≡ whole_field more low high (drop at input.now) }
     ensures field_within { FieldWithin low high input.now result }
 {
     let Field::Number { value, next } = number(input, at, more) else {
@@ -123,7 +123,7 @@ fn whole_field(input: &[u8], at: usize, more: u32, low: u64, high: u64) -> Field
 // Such a field after a comma.
 fn next_field(input: &[u8], at: usize, more: u32, low: u64, high: u64) -> Field
     requires { more ≤ 9 }
-    ensures result_value { asked_field_at input.now result ≡ next_field more low high (drop at input.now) }
+    ensures value { asked_field_at input.now result ≡ next_field more low high (drop at input.now) }
     ensures field_within { FieldWithin low high input.now result }
 {
     if !text::byte_is(input, at, b',') {
@@ -134,7 +134,7 @@ fn next_field(input: &[u8], at: usize, more: u32, low: u64, high: u64) -> Field
 
 // The input's line.
 pub fn asked(input: &[u8]) -> Ask
-    ensures result_value { asked_of result ≡ asked_in input.now }
+    ensures value { asked_of result ≡ asked_in input.now }
     ensures ask_within { AskWithin result }
 {
     let Field::Number {

@@ -25,9 +25,8 @@ fn put_pins(kind: u32, from: u32, to: u32, buffer: &mut [u8], start: usize) -> u
 // Writes the lines of nodes whose kinds are drawn, from the state before these draws.
 fn put_wires(first: u32, from: u32, to: u32, buffer: &mut [u8], start: usize) -> usize
     requires { (from ≤ to) × (start + length (concat_from (node_line (wire_kind first from)) from (to - from)) ≤ length buffer.old) }
-    ensures* { do
-      let lines = concat_from (node_line (wire_kind first from)) from (to - from)
-      ⌜ Put start lines buffer.old buffer.new result ⌝ }
+    ensures { let lines = concat_from (node_line (wire_kind first from)) from (to - from) in
+        Put start lines buffer.old buffer.new result }
 {
     let mut at = start;
     let mut state = first;

@@ -178,9 +178,8 @@ fn faulty_with_delays(
     weighting: Weighting,
     delay: &[u16],
 ) -> u32
-    ensures* { do
-      let block = block_of kind.now capacity.now first_edge.now edge_target.now
-      ⌜ result ≡ faulty_with_delays block (weighed_congestion weighting delay.now 0 [] []) ⌝ }
+    ensures { let block = block_of kind.now capacity.now first_edge.now edge_target.now in
+        result ≡ faulty_with_delays block (weighed_congestion weighting delay.now 0 [] []) }
 {
     let mut none = [0u64; 1];
     let history = [0u32; 1];
@@ -216,9 +215,8 @@ fn faulty_with_delays(
 
 // The lowest of tables 1 to 4 that breaks its rule, 0 if none does.
 pub fn faulty_block(kind: &[u8], capacity: &[u8], first_edge: &[u32], edge_target: &[u16]) -> u32
-    ensures* { do
-      let block = block_of kind.now capacity.now first_edge.now edge_target.now
-      ⌜ result ≡ faulty_table block ⌝ }
+    ensures { let block = block_of kind.now capacity.now first_edge.now edge_target.now in
+        result ≡ faulty_table block }
 {
     let untimed = Weighting {
         timed: false,
@@ -289,10 +287,9 @@ pub fn faulty_job(
     criticality: &[u8],
     terms: Terms,
 ) -> u32
-    ensures* { do
-      let job = job_of kind.now capacity.now first_edge.now edge_target.now
-          source.now first_sink.now sink.now delay.now criticality.now terms
-      ⌜ result ≡ faulty_job job ⌝ }
+    ensures { let job = job_of kind.now capacity.now first_edge.now edge_target.now
+        source.now first_sink.now sink.now delay.now criticality.now terms in
+        result ≡ faulty_job job }
 {
     let table = faulty_block(kind, capacity, first_edge, edge_target);
     if 1 <= table {

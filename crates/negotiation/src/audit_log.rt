@@ -81,16 +81,14 @@ fn audit_from(
     work: &mut [u64],
     log: &[u32],
 ) -> AuditAnswer
-    requires* { do
-      let job = job_of kind.now capacity.now first_edge.now edge_target.now source.now first_sink.now sink.now
-          delay.now criticality.now terms
-      ⌜ Routable job × (8 * nodes job ≤ length work.old)
-          × Ready job (first_progress job) begun history.old users.old in_tree.old tree_from.old tree_to.old due.old
-          (take used log.now) ⌝ }
-    ensures* { do
-      let job = job_of kind.now capacity.now first_edge.now edge_target.now
-          source.now first_sink.now sink.now delay.now criticality.now terms
-      ⌜ audit_reply_of result work.new ≡ audited_reply job (replay_by true job used log.now) work.old ⌝ }
+    requires { let job = job_of kind.now capacity.now first_edge.now edge_target.now source.now first_sink.now sink.now
+        delay.now criticality.now terms in
+        Routable job × (8 * nodes job ≤ length work.old)
+        × Ready job (first_progress job) begun history.old users.old in_tree.old tree_from.old tree_to.old due.old
+        (take used log.now) }
+    ensures { let job = job_of kind.now capacity.now first_edge.now edge_target.now
+        source.now first_sink.now sink.now delay.now criticality.now terms in
+        audit_reply_of result work.new ≡ audited_reply job (replay_by true job used log.now) work.old }
 {
     if log.len() < used {
         turns::clear(work, 8 * kind.len());
@@ -138,14 +136,12 @@ fn audit_lists(
     work: &mut [u64],
     log: &[u32],
 ) -> AuditAnswer
-    requires* { do
-      let job = job_of kind.now capacity.now first_edge.now edge_target.now source.now first_sink.now sink.now
-          delay.now criticality.now terms
-      ⌜ Routable job × (8 * nodes job ≤ length work.old) ⌝ }
-    ensures* { do
-      let job = job_of kind.now capacity.now first_edge.now edge_target.now
-          source.now first_sink.now sink.now delay.now criticality.now terms
-      ⌜ audit_reply_of result work.new ≡ audited_reply job (replay_by true job used log.now) work.old ⌝ }
+    requires { let job = job_of kind.now capacity.now first_edge.now edge_target.now source.now first_sink.now sink.now
+        delay.now criticality.now terms in
+        Routable job × (8 * nodes job ≤ length work.old) }
+    ensures { let job = job_of kind.now capacity.now first_edge.now edge_target.now
+        source.now first_sink.now sink.now delay.now criticality.now terms in
+        audit_reply_of result work.new ≡ audited_reply job (replay_by true job used log.now) work.old }
 {
     let n = kind.len();
     let nets = source.len();
@@ -203,15 +199,13 @@ pub fn audit_joined(
     work: &mut [u64],
     log: &[u32],
 ) -> AuditAnswer
-    requires* { do
-      let job = job_of kind.now capacity.now first_edge.now edge_target.now source.now first_sink.now sink.now
-          delay.now criticality.now terms
-      ⌜ Routable job × (8 * nodes job ≤ length work.old) ⌝ }
-    ensures* { do
-      let job = job_of kind.now capacity.now first_edge.now edge_target.now
-          source.now first_sink.now sink.now delay.now criticality.now terms
-      let run = audited_reply job (replay_by true job used log.now) work.old
-      ⌜ audit_reply_of result work.new ≡ reached refused_audit job work.old run ⌝ }
+    requires { let job = job_of kind.now capacity.now first_edge.now edge_target.now source.now first_sink.now sink.now
+        delay.now criticality.now terms in
+        Routable job × (8 * nodes job ≤ length work.old) }
+    ensures { let job = job_of kind.now capacity.now first_edge.now edge_target.now
+        source.now first_sink.now sink.now delay.now criticality.now terms in
+        let run = audited_reply job (replay_by true job used log.now) work.old in
+        audit_reply_of result work.new ≡ reached refused_audit job work.old run }
 {
     match reach::unreachable(
         kind,

@@ -9,9 +9,8 @@ use price::Tuning;
 // How many nodes have more users than their capacity.
 pub fn over_count(capacity: &[u8], users: &[u16]) -> u32
     requires { (length capacity.now ≤ length users.now) × (length capacity.now ≤ nodes_most) }
-    ensures* { do
-      let over : (ℕ → Bool) = λ v. ltb (get_or capacity.now v 0) (get_or users.now v 0)
-      ⌜ result ≡ count_below over (length capacity.now) ⌝ }
+    ensures { let over : (ℕ → Bool) = λ v. ltb (get_or capacity.now v 0) (get_or users.now v 0) in
+        result ≡ count_below over (length capacity.now) }
 {
     let mut over = 0;
     let mut v = 0;
@@ -28,10 +27,9 @@ pub fn over_count(capacity: &[u8], users: &[u16]) -> u32
 pub fn grow_histories(g: Tuning, capacity: &[u8], users: &[u16], history: &mut [u32])
     requires capacity_len { (length capacity.now ≡ length users.now) × (length capacity.now ≡ length history.old) }
     requires by_index { ((v : ℕ) → v < length history.old → get_or history.old v 0 < 2 ^ 31) × (g.step ≤ step_most) }
-    ensures* { do
-      let old = history.old
-      let grown : (ℕ → ℕ) = λ v. next_history g (get_or old v 0) (get_or users.now v 0) (get_or capacity.now v 0)
-      ⌜ history.new ≡ up_to grown (length old) ⌝ }
+    ensures { let old = history.old in
+        let grown : (ℕ → ℕ) = λ v. next_history g (get_or old v 0) (get_or users.now v 0) (get_or capacity.now v 0) in
+        history.new ≡ up_to grown (length old) }
 {
     let mut v = 0;
     while v < history.len() {

@@ -42,9 +42,8 @@ fn path_crowded(log: &[u32], from: usize, to: usize, capacity: &[u8], users: &[u
 fn records_crowded(log: &[u32], from: usize, until: usize, capacity: &[u8], users: &[u16]) -> bool
     requires from_le_until { (from ≤ until) × (until ≤ length log.now) × (length capacity.now ≡ length users.now) }
     requires whole { Whole (length users.now) (slice from until log.now) }
-    ensures* { do
-      let tree = path_nodes (decode (slice from until log.now))
-      ⌜ result ≡ some_over capacity.now users.now tree ⌝ }
+    ensures { let tree = path_nodes (decode (slice from until log.now)) in
+        result ≡ some_over capacity.now users.now tree }
 {
     let mut at = from;
     while at < until {
@@ -71,10 +70,9 @@ fn due_mark(
 ) -> u8
     requires due_ready { DueReady capacity.now first_sink.now log.now tree_from.now tree_to.now users.now }
     requires net_in_bounds { net < length tree_from.now }
-    ensures* { do
-      let taken = takes all capacity.now first_sink.now log.now tree_from.now
-          tree_to.now users.now net
-      ⌜ result ≡ choose taken 1 0 ⌝ }
+    ensures { let taken = takes all capacity.now first_sink.now log.now tree_from.now
+        tree_to.now users.now net in
+        result ≡ choose taken 1 0 }
 {
     if first_sink[net + 1] <= first_sink[net] {
         return 0;
@@ -105,11 +103,10 @@ pub fn mark_due(
 )
     requires due_ready { DueReady capacity.now first_sink.now log.now tree_from.now tree_to.now users.now }
     requires due_len { length due.old ≡ length tree_from.now }
-    ensures* { do
-      let all = all_due terms tariff.iteration
-      let mark : (ℕ → ℕ) = λ k. choose (takes all capacity.now first_sink.now log.now
-          tree_from.now tree_to.now users.now k) 1 0
-      ⌜ due.new ≡ up_to mark (length due.old) ⌝ }
+    ensures { let all = all_due terms tariff.iteration in
+        let mark : (ℕ → ℕ) = λ k. choose (takes all capacity.now first_sink.now log.now
+        tree_from.now tree_to.now users.now k) 1 0 in
+        due.new ≡ up_to mark (length due.old) }
 {
     let all = all_due(terms, tariff.iteration);
     let mut net = 0;

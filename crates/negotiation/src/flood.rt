@@ -28,10 +28,9 @@ fn flood_row(
     work: &mut [u64],
 ) -> usize
     requires { FloodRoom (graph_of kind.now first_edge.now edge_target.now) u end reached.old work.old }
-    ensures* { do
-      let graph = graph_of kind.now first_edge.now edge_target.now
-      let to = row_start graph (u + 1)
-      ⌜ RowFlooded graph u to end result reached.old reached.new work.old work.new ⌝ }
+    ensures { let graph = graph_of kind.now first_edge.now edge_target.now in
+        let to = row_start graph (u + 1) in
+        RowFlooded graph u to end result reached.old reached.new work.old work.new }
 {
     let to = first_edge[u + 1] as usize;
     let mut e = first_edge[u] as usize;
@@ -77,12 +76,10 @@ pub fn flood(
     reached: &mut [u8],
     work: &mut [u64],
 )
-    requires* { do
-      let graph = graph_of kind.now first_edge.now edge_target.now
-      ⌜ FloodReady graph source sinks.now reached.old work.old ⌝ }
-    ensures* { do
-      let graph = graph_of kind.now first_edge.now edge_target.now
-      ⌜ Flooded graph source sinks.now reached.new work.old work.new ⌝ }
+    requires { let graph = graph_of kind.now first_edge.now edge_target.now in
+        FloodReady graph source sinks.now reached.old work.old }
+    ensures { let graph = graph_of kind.now first_edge.now edge_target.now in
+        Flooded graph source sinks.now reached.new work.old work.new }
 {
     clear_marks(reached);
     reached[source] = 1;

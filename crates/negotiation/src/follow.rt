@@ -31,9 +31,8 @@ pub enum PathCost {
 // There is an edge from node u to v.
 fn has_edge(kind: &[u8], first_edge: &[u32], edge_target: &[u16], u: usize, v: usize) -> bool
     requires { Graph (graph_of kind.now first_edge.now edge_target.now) × (u < length kind.now) }
-    ensures* { do
-      let graph = graph_of kind.now first_edge.now edge_target.now
-      ⌜ result ≡ has_edge graph u v ⌝ }
+    ensures { let graph = graph_of kind.now first_edge.now edge_target.now in
+        result ≡ has_edge graph u v }
 {
     let to = first_edge[u + 1] as usize;
     let mut e = first_edge[u] as usize;
@@ -69,10 +68,9 @@ fn node_price(
     v: usize,
 ) -> u64
     requires { PriceReady kind.now capacity.now (weighed_congestion weighting delay.now factor history.now others.now) v }
-    ensures* { do
-      let block = block_of kind.now capacity.now [] []
-      let congestion = weighed_congestion weighting delay.now factor history.now others.now
-      ⌜ (result ≡ price_at block congestion v) × (result ≤ weighed_most weighting) ⌝ }
+    ensures { let block = block_of kind.now capacity.now [] [] in
+        let congestion = weighed_congestion weighting delay.now factor history.now others.now in
+        (result ≡ price_at block congestion v) × (result ≤ weighed_most weighting) }
 {
     let k = kind[v] as u32;
     let c = capacity[v] as u32;
@@ -105,9 +103,8 @@ fn step_passes(
 ) -> bool
     requires graph { Graph (graph_of kind.now first_edge.now edge_target.now) × (u < length kind.now) }
     requires goals_len { (length goals.now ≡ length kind.now) × (length in_tree.now ≡ length kind.now) }
-    ensures* { do
-      let graph = graph_of kind.now first_edge.now edge_target.now
-      ⌜ result ≡ step_passes graph goals.now in_tree.now u v last ⌝ }
+    ensures { let graph = graph_of kind.now first_edge.now edge_target.now in
+        result ≡ step_passes graph goals.now in_tree.now u v last }
 {
     if !has_edge(kind, first_edge, edge_target, u, v) {
         return false;
@@ -136,15 +133,13 @@ fn path_cost(
     from: usize,
     to: usize,
 ) -> PathCost
-    requires* { do
-      let block = block_of kind.now capacity.now first_edge.now edge_target.now
-      let congestion = weighed_congestion weighting delay.now factor history.now users.now
-      ⌜ PassReady block congestion goals.now in_tree.old log.now from to ⌝ }
-    ensures* result_value { do
-      let block = block_of kind.now capacity.now first_edge.now edge_target.now
-      let congestion = weighed_congestion weighting delay.now factor history.now users.now
-      let path = slice from to log.now
-      ⌜ costs_of result ≡ pass_cost block (price_at block congestion) goals.now in_tree.old path ⌝ }
+    requires { let block = block_of kind.now capacity.now first_edge.now edge_target.now in
+        let congestion = weighed_congestion weighting delay.now factor history.now users.now in
+        PassReady block congestion goals.now in_tree.old log.now from to }
+    ensures value { let block = block_of kind.now capacity.now first_edge.now edge_target.now in
+        let congestion = weighed_congestion weighting delay.now factor history.now users.now in
+        let path = slice from to log.now in
+        costs_of result ≡ pass_cost block (price_at block congestion) goals.now in_tree.old path }
     ensures path_marked { PathMarked result (slice from to log.now) in_tree.old in_tree.new }
 {
     let mut u = log[from] as usize;
@@ -224,19 +219,16 @@ pub fn follow_turn(
     in_tree: &mut [u8],
     log: &[u32],
 ) -> usize
-    requires* { do
-      let block = block_of kind.now capacity.now first_edge.now edge_target.now
-      let congestion = weighed_congestion weighting delay.now tariff.factor history.now users.now
-      ⌜ RecordReady block congestion goals.now in_tree.old log.now tariff.words ⌝ }
-    ensures* result_value { do
-      let block = block_of kind.now capacity.now first_edge.now edge_target.now
-      let congestion = weighed_congestion weighting delay.now tariff.factor history.now users.now
-      let ws = drop tariff.words log.now
-      let passes = turn_passes block (price_at block congestion) goals.now in_tree.old tariff.iteration net ws
-      ⌜ result ≡ choose passes (6 + get_or ws 5 0) 0 ⌝ }
-    ensures* fact { do
-      let ws = drop tariff.words log.now
-      ⌜ ((result ≡ 0 → ⊥) → Stored 1 (record_path ws) in_tree.old in_tree.new) ⌝ }
+    requires { let block = block_of kind.now capacity.now first_edge.now edge_target.now in
+        let congestion = weighed_congestion weighting delay.now tariff.factor history.now users.now in
+        RecordReady block congestion goals.now in_tree.old log.now tariff.words }
+    ensures value { let block = block_of kind.now capacity.now first_edge.now edge_target.now in
+        let congestion = weighed_congestion weighting delay.now tariff.factor history.now users.now in
+        let ws = drop tariff.words log.now in
+        let passes = turn_passes block (price_at block congestion) goals.now in_tree.old tariff.iteration net ws in
+        result ≡ choose passes (6 + get_or ws 5 0) 0 }
+    ensures stored { let ws = drop tariff.words log.now in
+        ((result ≡ 0 → ⊥) → Stored 1 (record_path ws) in_tree.old in_tree.new) }
 {
     let at = tariff.words;
     if !frame_follows(log, at, tariff.iteration, net, kind.len()) {
@@ -294,15 +286,13 @@ pub fn least_cost(
     in_tree: &[u8],
     sinks: &[u16],
 ) -> u64
-    requires* { do
-      let block = block_of kind.now capacity.now first_edge.now edge_target.now
-      let congestion = weighed_congestion weighting delay.now factor history.now users.now
-      ⌜ TurnReady block congestion in_tree.now work.old × (sink_list_sound (length kind.now) sinks.now ≡ true) ⌝ }
-    ensures* result_value { do
-      let block = block_of kind.now capacity.now first_edge.now edge_target.now
-      let congestion = weighed_congestion weighting delay.now factor history.now users.now
-      let made = turn block (price_at block congestion) in_tree.now sinks.now
-      ⌜ result ≡ least_asked asked made ⌝ }
+    requires { let block = block_of kind.now capacity.now first_edge.now edge_target.now in
+        let congestion = weighed_congestion weighting delay.now factor history.now users.now in
+        TurnReady block congestion in_tree.now work.old × (sink_list_sound (length kind.now) sinks.now ≡ true) }
+    ensures value { let block = block_of kind.now capacity.now first_edge.now edge_target.now in
+        let congestion = weighed_congestion weighting delay.now factor history.now users.now in
+        let made = turn block (price_at block congestion) in_tree.now sinks.now in
+        result ≡ least_asked asked made }
     ensures same_from { SameFrom (8 * length kind.now) work.old work.new }
 {
     if !asked {

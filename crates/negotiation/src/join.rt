@@ -106,9 +106,8 @@ fn join_nets(
 ) -> usize
     requires joinable { Joinable source.now first_sink.now sink.now }
     requires source_in_bounds { (length source.now + 1 ≤ length firsts.old) × (length sink.now ≤ length places.old) }
-    ensures* { do
-      let nets = nets_only source.now first_sink.now sink.now
-      ⌜ JoinedPlaces nets firsts.new places.new result ⌝ }
+    ensures { let nets = nets_only source.now first_sink.now sink.now in
+        JoinedPlaces nets firsts.new places.new result }
 {
     let mut seen = [0u16; NODES_MOST];
     let mut count = 0;

@@ -118,20 +118,17 @@ fn route_joined(
     work: &mut [u64],
     log: &mut [u32],
 ) -> RouteAnswer
-    requires* { do
-      let job = job_of kind.now capacity.now first_edge.now edge_target.now source.now first_sink.now sink.now
-          delay.now criticality.now terms
-      ⌜ Routable job × (8 * nodes job ≤ length work.old) ⌝ }
-    ensures* log_after { do
-      let job = job_of kind.now capacity.now first_edge.now edge_target.now
-          source.now first_sink.now sink.now delay.now criticality.now terms
-      let run = run_from start job work.old log.old
-      ⌜ route_reply_of result work.new log.new ≡ reached_reply job work.old log.old run ⌝ }
-    ensures* expanded { do
-      let job = job_of kind.now capacity.now first_edge.now edge_target.now
-          source.now first_sink.now sink.now delay.now criticality.now terms
-      let made = turns_logged (route_reply_of result work.new log.new)
-      ⌜ result.expanded ≡ expanded_after aimed job (lent_records start log.old) made ⌝ }
+    requires { let job = job_of kind.now capacity.now first_edge.now edge_target.now source.now first_sink.now sink.now
+        delay.now criticality.now terms in
+        Routable job × (8 * nodes job ≤ length work.old) }
+    ensures answers { let job = job_of kind.now capacity.now first_edge.now edge_target.now
+        source.now first_sink.now sink.now delay.now criticality.now terms in
+        let run = run_from start job work.old log.old in
+        route_reply_of result work.new log.new ≡ reached_reply job work.old log.old run }
+    ensures expanded { let job = job_of kind.now capacity.now first_edge.now edge_target.now
+        source.now first_sink.now sink.now delay.now criticality.now terms in
+        let made = turns_logged (route_reply_of result work.new log.new) in
+        result.expanded ≡ expanded_after aimed job (lent_records start log.old) made }
 {
     match reach::unreachable(
         kind,
@@ -182,10 +179,9 @@ fn refusal_of(
     terms: Terms,
     entries: usize,
 ) -> Outcome
-    ensures* { do
-      let job = job_of kind.now capacity.now first_edge.now edge_target.now
-          source.now first_sink.now sink.now delay.now criticality.now terms
-      ⌜ route_refusal result 0 0 ≡ job_refusal job entries ⌝ }
+    ensures { let job = job_of kind.now capacity.now first_edge.now edge_target.now
+        source.now first_sink.now sink.now delay.now criticality.now terms in
+        route_refusal result 0 0 ≡ job_refusal job entries }
 {
     let table = job::faulty_job(
         kind,
@@ -233,16 +229,14 @@ fn routed_from(
     work: &mut [u64],
     log: &mut [u32],
 ) -> RouteAnswer
-    ensures* log_after { do
-      let job = job_of kind.now capacity.now first_edge.now edge_target.now
-          source.now first_sink.now sink.now delay.now criticality.now terms
-      let run = run_from start (joined job) work.old log.old
-      ⌜ route_reply_of result work.new log.new ≡ tested job work.old log.old run ⌝ }
-    ensures* expanded { do
-      let job = job_of kind.now capacity.now first_edge.now edge_target.now
-          source.now first_sink.now sink.now delay.now criticality.now terms
-      let made = turns_logged (route_reply_of result work.new log.new)
-      ⌜ result.expanded ≡ expanded_after aimed (joined job) (lent_records start log.old) made ⌝ }
+    ensures answers { let job = job_of kind.now capacity.now first_edge.now edge_target.now
+        source.now first_sink.now sink.now delay.now criticality.now terms in
+        let run = run_from start (joined job) work.old log.old in
+        route_reply_of result work.new log.new ≡ tested job work.old log.old run }
+    ensures expanded { let job = job_of kind.now capacity.now first_edge.now edge_target.now
+        source.now first_sink.now sink.now delay.now criticality.now terms in
+        let made = turns_logged (route_reply_of result work.new log.new) in
+        result.expanded ≡ expanded_after aimed (joined job) (lent_records start log.old) made }
 {
     let refusal = refusal_of(
         kind,
@@ -309,15 +303,13 @@ pub fn route(
     work: &mut [u64],
     log: &mut [u32],
 ) -> RouteAnswer
-    ensures* demand { do
-      let job = job_of kind.now capacity.now first_edge.now edge_target.now
-          source.now first_sink.now sink.now delay.now criticality.now terms
-      ⌜ Demand3 job work.old log.old (route_reply_of result work.new log.new) ⌝ }
-    ensures* expanded { do
-      let job = job_of kind.now capacity.now first_edge.now edge_target.now
-          source.now first_sink.now sink.now delay.now criticality.now terms
-      let made = turns_logged (route_reply_of result work.new log.new)
-      ⌜ result.expanded ≡ expanded_after aimed (joined job) [] made ⌝ }
+    ensures demand { let job = job_of kind.now capacity.now first_edge.now edge_target.now
+        source.now first_sink.now sink.now delay.now criticality.now terms in
+        Demand3 job work.old log.old (route_reply_of result work.new log.new) }
+    ensures expanded { let job = job_of kind.now capacity.now first_edge.now edge_target.now
+        source.now first_sink.now sink.now delay.now criticality.now terms in
+        let made = turns_logged (route_reply_of result work.new log.new) in
+        result.expanded ≡ expanded_after aimed (joined job) [] made }
 {
     routed_from(
         kind,
@@ -355,15 +347,13 @@ pub fn resume(
     work: &mut [u64],
     log: &mut [u32],
 ) -> RouteAnswer
-    ensures* resumed { do
-      let job = job_of kind.now capacity.now first_edge.now edge_target.now
-          source.now first_sink.now sink.now delay.now criticality.now terms
-      ⌜ Resumed job used work.old log.old (route_reply_of result work.new log.new) ⌝ }
-    ensures* expanded { do
-      let job = job_of kind.now capacity.now first_edge.now edge_target.now
-          source.now first_sink.now sink.now delay.now criticality.now terms
-      let made = turns_logged (route_reply_of result work.new log.new)
-      ⌜ result.expanded ≡ expanded_after aimed (joined job) (decode (take used log.old)) made ⌝ }
+    ensures resumed { let job = job_of kind.now capacity.now first_edge.now edge_target.now
+        source.now first_sink.now sink.now delay.now criticality.now terms in
+        Resumed job used work.old log.old (route_reply_of result work.new log.new) }
+    ensures expanded { let job = job_of kind.now capacity.now first_edge.now edge_target.now
+        source.now first_sink.now sink.now delay.now criticality.now terms in
+        let made = turns_logged (route_reply_of result work.new log.new) in
+        result.expanded ≡ expanded_after aimed (joined job) (decode (take used log.old)) made }
 {
     routed_from(
         kind,
@@ -400,10 +390,9 @@ pub fn audit(
     work: &mut [u64],
     log: &[u32],
 ) -> AuditAnswer
-    ensures* audited { do
-      let job = job_of kind.now capacity.now first_edge.now edge_target.now
-          source.now first_sink.now sink.now delay.now criticality.now terms
-      ⌜ Audited job used work.old log.now (audit_reply_of result work.new) ⌝ }
+    ensures audited { let job = job_of kind.now capacity.now first_edge.now edge_target.now
+        source.now first_sink.now sink.now delay.now criticality.now terms in
+        Audited job used work.old log.now (audit_reply_of result work.new) }
 {
     let refusal = refusal_of(
         kind,

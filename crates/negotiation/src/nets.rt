@@ -10,10 +10,9 @@ use crate::trees;
 // The tree that stands in the log from `from` to below `to` is dropped: its nodes lose a user each.
 fn rip_up(log: &[u32], from: usize, to: usize, users: &mut [u16], in_tree: &mut [u8])
     requires { RipReady (length in_tree.old) from to log.now users.old in_tree.old }
-    ensures* { do
-      let tree = path_nodes (decode (slice from to log.now))
-      let marks = in_tree.old
-      ⌜ RippedUp (length marks) tree users.old marks users.new in_tree.new ⌝ }
+    ensures { let tree = path_nodes (decode (slice from to log.now)) in
+        let marks = in_tree.old in
+        RippedUp (length marks) tree users.old marks users.new in_tree.new }
 {
     trees::drop_records(log, from, to, users, in_tree);
     trees::unmark_records(log, from, to, in_tree);
@@ -22,10 +21,9 @@ fn rip_up(log: &[u32], from: usize, to: usize, users: &mut [u16], in_tree: &mut 
 // The tree that stands in the log from `from` to below `to` counts: its nodes gain a user each, and lose their mark.
 fn count_tree(log: &[u32], from: usize, to: usize, users: &mut [u16], in_tree: &mut [u8])
     requires { CountReady (length in_tree.old) from to log.now users.old in_tree.old }
-    ensures* { do
-      let tree = path_nodes (decode (slice from to log.now))
-      let marks = in_tree.old
-      ⌜ TreeCounted (length marks) tree users.old marks users.new in_tree.new ⌝ }
+    ensures { let tree = path_nodes (decode (slice from to log.now)) in
+        let marks = in_tree.old in
+        TreeCounted (length marks) tree users.old marks users.new in_tree.new }
 {
     trees::add_records(log, from, to, users, in_tree);
 }

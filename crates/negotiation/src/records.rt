@@ -10,9 +10,8 @@ const HALF: u64 = 4294967296;
 fn copy_path(work: &[u64], count: usize, log: &mut [u32], at: usize)
     requires count_in_bounds { (count ≤ length work.now) × (at + count ≤ length log.old) }
     requires all_below { AllBelow (2 ^ 32) (take count work.now) }
-    ensures* { do
-      let old = log.old
-      ⌜ log.new ≡ take at old ++ (take count work.now ++ drop (at + count) old) ⌝ }
+    ensures { let old = log.old in
+        log.new ≡ take at old ++ (take count work.now ++ drop (at + count) old) }
 {
     let mut k = 0;
     while k < count {
@@ -34,10 +33,9 @@ pub fn write_record(
 )
     requires count_in_bounds { (count ≤ length work.now) × (at + (6 + count) ≤ length log.old) × (count < 2 ^ 32) }
     requires all_below { AllBelow (2 ^ 32) (take count work.now) }
-    ensures* { do
-      let old = log.old
-      let turn = record_of iteration net sink cost (take count work.now)
-      ⌜ log.new ≡ take at old ++ (words turn ++ drop (at + (6 + count)) old) ⌝ }
+    ensures { let old = log.old in
+        let turn = record_of iteration net sink cost (take count work.now) in
+        log.new ≡ take at old ++ (words turn ++ drop (at + (6 + count)) old) }
 {
     log[at] = iteration;
     log[at + 1] = net;

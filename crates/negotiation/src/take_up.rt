@@ -168,21 +168,18 @@ fn follow_tried(
     work: &mut [u64],
     log: &[u32],
 ) -> Tried
-    requires* { do
-      let block = block_of kind.now capacity.now first_edge.now edge_target.now
-      ⌜ TryReady block sink.now delay.now criticality.now timed from to tariff history.now users.now in_tree.old work.old
-          log.now ⌝ }
-    ensures* result_value { do
-      let block = block_of kind.now capacity.now first_edge.now edge_target.now
-      let ws = drop tariff.words log.now
-      let passes = tried_passes block sink.now delay.now criticality.now timed from to tariff net
-          history.now users.now in_tree.old ws
-      let least = tried_least block sink.now delay.now criticality.now timed from to tariff audit
-          history.now users.now in_tree.old
-      ⌜ result ≡ tried_as audit (leb (length log.now) tariff.words) passes ws least ⌝ }
-    ensures* fact { do
-      let ws = drop tariff.words log.now
-      ⌜ ((count : ℕ) → result ≡ Follows count → Stored 1 (record_path ws) in_tree.old in_tree.new) ⌝ }
+    requires { let block = block_of kind.now capacity.now first_edge.now edge_target.now in
+        TryReady block sink.now delay.now criticality.now timed from to tariff history.now users.now in_tree.old work.old
+        log.now }
+    ensures value { let block = block_of kind.now capacity.now first_edge.now edge_target.now in
+        let ws = drop tariff.words log.now in
+        let passes = tried_passes block sink.now delay.now criticality.now timed from to tariff net
+        history.now users.now in_tree.old ws in
+        let least = tried_least block sink.now delay.now criticality.now timed from to tariff audit
+        history.now users.now in_tree.old in
+        result ≡ tried_as audit (leb (length log.now) tariff.words) passes ws least }
+    ensures stored { let ws = drop tariff.words log.now in
+        ((count : ℕ) → result ≡ Follows count → Stored 1 (record_path ws) in_tree.old in_tree.new) }
     ensures same_from { SameFrom (8 * length kind.now) work.old work.new }
 {
     if ends_here(audit, tariff.words, log.len()) {
@@ -414,18 +411,16 @@ pub fn take_up(
     work: &mut [u64],
     log: &[u32],
 ) -> Taken
-    requires* { do
-      let job = job_of kind.now capacity.now first_edge.now edge_target.now source.now first_sink.now sink.now
-          delay.now criticality.now terms
-      ⌜ Routable job × (8 * nodes job ≤ length work.old)
-          × Ready job (first_progress job) begun history.old users.old in_tree.old tree_from.old tree_to.old due.old
-          log.now ⌝ }
-    ensures* fact { do
-      let job = job_of kind.now capacity.now first_edge.now edge_target.now
-          source.now first_sink.now sink.now delay.now criticality.now
-          terms
-      ⌜ LogTaken audit result job history.new users.new in_tree.new tree_from.new
-          tree_to.new due.new log.now ⌝ }
+    requires { let job = job_of kind.now capacity.now first_edge.now edge_target.now source.now first_sink.now sink.now
+        delay.now criticality.now terms in
+        Routable job × (8 * nodes job ≤ length work.old)
+        × Ready job (first_progress job) begun history.old users.old in_tree.old tree_from.old tree_to.old due.old
+        log.now }
+    ensures taken { let job = job_of kind.now capacity.now first_edge.now edge_target.now
+        source.now first_sink.now sink.now delay.now criticality.now
+        terms in
+        LogTaken audit result job history.new users.new in_tree.new tree_from.new
+        tree_to.new due.new log.now }
     ensures same_from { SameFrom (8 * length kind.now) work.old work.new }
 {
     let mut tariff = begun;

@@ -24,10 +24,9 @@ fn drop_path(log: &[u32], from: usize, to: usize, users: &mut [u16], in_tree: &m
     requires from_le_to { (from ≤ to) × (to ≤ length log.now) × (length users.old ≡ length in_tree.old) }
     requires all_below { AllBelow (length in_tree.old) (slice from to log.now) }
     requires can_drop { CanDrop (length in_tree.old) (slice from to log.now) users.old in_tree.old }
-    ensures* { do
-      let path = slice from to log.now
-      let marks = in_tree.old
-      ⌜ Dropped (length marks) path users.old marks users.new in_tree.new ⌝ }
+    ensures { let path = slice from to log.now in
+        let marks = in_tree.old in
+        Dropped (length marks) path users.old marks users.new in_tree.new }
 {
     let mut k = from;
     while k < to {
@@ -45,10 +44,9 @@ fn add_path(log: &[u32], from: usize, to: usize, users: &mut [u16], in_tree: &mu
     requires from_le_to { (from ≤ to) × (to ≤ length log.now) × (length users.old ≡ length in_tree.old) }
     requires all_below { AllBelow (length in_tree.old) (slice from to log.now) }
     requires can_add_marked { CanAddMarked (length in_tree.old) users.old in_tree.old }
-    ensures* { do
-      let path = slice from to log.now
-      let marks = in_tree.old
-      ⌜ UsersAdded (length marks) path users.old marks users.new in_tree.new ⌝ }
+    ensures { let path = slice from to log.now in
+        let marks = in_tree.old in
+        UsersAdded (length marks) path users.old marks users.new in_tree.new }
 {
     let mut k = from;
     while k < to {
@@ -79,13 +77,11 @@ fn unmark_path(log: &[u32], from: usize, to: usize, in_tree: &mut [u8])
 pub fn drop_records(log: &[u32], from: usize, until: usize, users: &mut [u16], in_tree: &mut [u8])
     requires from_le_until { (from ≤ until) × (until ≤ length log.now) × (length users.old ≡ length in_tree.old) }
     requires whole { Whole (length in_tree.old) (slice from until log.now) }
-    requires* fact { do
-      let old = path_nodes (decode (slice from until log.now))
-      ⌜ CanDrop (length in_tree.old) old users.old in_tree.old ⌝ }
-    ensures* { do
-      let old = path_nodes (decode (slice from until log.now))
-      let marks = in_tree.old
-      ⌜ Dropped (length marks) old users.old marks users.new in_tree.new ⌝ }
+    requires ready { let old = path_nodes (decode (slice from until log.now)) in
+        CanDrop (length in_tree.old) old users.old in_tree.old }
+    ensures { let old = path_nodes (decode (slice from until log.now)) in
+        let marks = in_tree.old in
+        Dropped (length marks) old users.old marks users.new in_tree.new }
 {
     let mut at = from;
     while at < until {
@@ -99,9 +95,8 @@ pub fn drop_records(log: &[u32], from: usize, until: usize, users: &mut [u16], i
 pub fn unmark_records(log: &[u32], from: usize, until: usize, in_tree: &mut [u8])
     requires from_le_until { (from ≤ until) × (until ≤ length log.now) }
     requires whole { Whole (length in_tree.old) (slice from until log.now) }
-    ensures* { do
-      let passed = path_nodes (decode (slice from until log.now))
-      ⌜ Stored 0 passed in_tree.old in_tree.new ⌝ }
+    ensures { let passed = path_nodes (decode (slice from until log.now)) in
+        Stored 0 passed in_tree.old in_tree.new }
 {
     let mut at = from;
     while at < until {
@@ -116,10 +111,9 @@ pub fn add_records(log: &[u32], from: usize, until: usize, users: &mut [u16], in
     requires from_le_until { (from ≤ until) × (until ≤ length log.now) × (length users.old ≡ length in_tree.old) }
     requires whole { Whole (length in_tree.old) (slice from until log.now) }
     requires can_add_marked { CanAddMarked (length in_tree.old) users.old in_tree.old }
-    ensures* { do
-      let passed = path_nodes (decode (slice from until log.now))
-      let marks = in_tree.old
-      ⌜ UsersAdded (length marks) passed users.old marks users.new in_tree.new ⌝ }
+    ensures { let passed = path_nodes (decode (slice from until log.now)) in
+        let marks = in_tree.old in
+        UsersAdded (length marks) passed users.old marks users.new in_tree.new }
 {
     let mut at = from;
     while at < until {

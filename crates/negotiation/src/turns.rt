@@ -95,20 +95,17 @@ fn found_path(
     in_tree: &[u8],
     sinks: &[u16],
 ) -> AimedPath
-    requires* fact { do
-      let block = block_of kind.now capacity.now first_edge.now edge_target.now
-      let congestion = weighed_congestion weighting delay.now factor history.now users.now
-      ⌜ TurnReady block congestion in_tree.now work.old × (sink_list_sound (length kind.now) sinks.now ≡ true) ⌝ }
-    requires* fact_2 { do
-      let block = block_of kind.now capacity.now first_edge.now edge_target.now
-      ⌜ BackLent aimed block first_back.now back_source.now ⌝ }
-    ensures* { do
-      let block = block_of kind.now capacity.now first_edge.now edge_target.now
-      let congestion = weighed_congestion weighting delay.now factor history.now users.now
-      let marks = in_tree.now
-      let made = turn block (price_at block congestion) marks sinks.now
-      ⌜ PathFound (length kind.now) made work.old result.answer work.new
-          × (result.expanded ≡ turn_count aimed block congestion marks sinks.now) ⌝ }
+    requires ready { let block = block_of kind.now capacity.now first_edge.now edge_target.now in
+        let congestion = weighed_congestion weighting delay.now factor history.now users.now in
+        TurnReady block congestion in_tree.now work.old × (sink_list_sound (length kind.now) sinks.now ≡ true) }
+    requires back_lent { let block = block_of kind.now capacity.now first_edge.now edge_target.now in
+        BackLent aimed block first_back.now back_source.now }
+    ensures { let block = block_of kind.now capacity.now first_edge.now edge_target.now in
+        let congestion = weighed_congestion weighting delay.now factor history.now users.now in
+        let marks = in_tree.now in
+        let made = turn block (price_at block congestion) marks sinks.now in
+        PathFound (length kind.now) made work.old result.answer work.new
+        × (result.expanded ≡ turn_count aimed block congestion marks sinks.now) }
 {
     if aimed {
         return search::aimed_path(
@@ -167,20 +164,17 @@ fn one_turn(
     users: &[u16],
     in_tree: &mut [u8],
 ) -> TurnMade
-    requires* fact { do
-      let block = block_of kind.now capacity.now first_edge.now edge_target.now
-      let congestion = weighed_congestion weighting delay.now tariff.factor history.now users.now
-      ⌜ CanTurn block congestion tariff sinks.now in_tree.old work.old log.old ⌝ }
-    requires* fact_2 { do
-      let block = block_of kind.now capacity.now first_edge.now edge_target.now
-      ⌜ BackLent tariff.aimed block first_back.now back_source.now ⌝ }
-    ensures* fact_3 { do
-      let block = block_of kind.now capacity.now first_edge.now edge_target.now
-      let congestion = weighed_congestion weighting delay.now tariff.factor history.now users.now
-      let marks = in_tree.old
-      let made = turn block (price_at block congestion) marks sinks.now
-      let count = turn_count tariff.aimed block congestion marks sinks.now
-      ⌜ TurnDone result made count tariff net sinks.now log.old marks log.new in_tree.new ⌝ }
+    requires ready { let block = block_of kind.now capacity.now first_edge.now edge_target.now in
+        let congestion = weighed_congestion weighting delay.now tariff.factor history.now users.now in
+        CanTurn block congestion tariff sinks.now in_tree.old work.old log.old }
+    requires back_lent { let block = block_of kind.now capacity.now first_edge.now edge_target.now in
+        BackLent tariff.aimed block first_back.now back_source.now }
+    ensures answers { let block = block_of kind.now capacity.now first_edge.now edge_target.now in
+        let congestion = weighed_congestion weighting delay.now tariff.factor history.now users.now in
+        let marks = in_tree.old in
+        let made = turn block (price_at block congestion) marks sinks.now in
+        let count = turn_count tariff.aimed block congestion marks sinks.now in
+        TurnDone result made count tariff net sinks.now log.old marks log.new in_tree.new }
     ensures same_from { SameFrom (8 * length kind.now) work.old work.new }
 {
     if sinks.len() == 0 {
@@ -250,29 +244,26 @@ fn net_turn(
     in_tree: &mut [u8],
 ) -> TurnMade
     requires sinks_ready { SinksReady timed sink.now criticality.now from to in_tree.old }
-    requires* fact { do
-      let block = block_of kind.now capacity.now first_edge.now edge_target.now
-      let sinks = slice from to sink.now
-      let criticalities = slice from to criticality.now
-      let joined : (ℕ → Bool) = tree_has in_tree.old
-      let weighting = weighting_due timed joined sinks criticalities
-      let congestion = weighed_congestion weighting delay.now tariff.factor history.now users.now
-      ⌜ CanTurn block congestion tariff (sinks_tried timed joined sinks criticalities) in_tree.old work.old log.old ⌝ }
-    requires* fact_2 { do
-      let block = block_of kind.now capacity.now first_edge.now edge_target.now
-      ⌜ BackLent tariff.aimed block first_back.now back_source.now ⌝ }
-    ensures* fact_3 { do
-      let block = block_of kind.now capacity.now first_edge.now edge_target.now
-      let sinks = slice from to sink.now
-      let criticalities = slice from to criticality.now
-      let marks = in_tree.old
-      let joined : (ℕ → Bool) = tree_has marks
-      let weighting = weighting_due timed joined sinks criticalities
-      let congestion = weighed_congestion weighting delay.now tariff.factor history.now users.now
-      let tried = sinks_tried timed joined sinks criticalities
-      let made = turn block (price_at block congestion) marks tried
-      let count = turn_count tariff.aimed block congestion marks tried
-      ⌜ TurnDone result made count tariff net tried log.old marks log.new in_tree.new ⌝ }
+    requires ready { let block = block_of kind.now capacity.now first_edge.now edge_target.now in
+        let sinks = slice from to sink.now in
+        let criticalities = slice from to criticality.now in
+        let joined : (ℕ → Bool) = tree_has in_tree.old in
+        let weighting = weighting_due timed joined sinks criticalities in
+        let congestion = weighed_congestion weighting delay.now tariff.factor history.now users.now in
+        CanTurn block congestion tariff (sinks_tried timed joined sinks criticalities) in_tree.old work.old log.old }
+    requires back_lent { let block = block_of kind.now capacity.now first_edge.now edge_target.now in
+        BackLent tariff.aimed block first_back.now back_source.now }
+    ensures answers { let block = block_of kind.now capacity.now first_edge.now edge_target.now in
+        let sinks = slice from to sink.now in
+        let criticalities = slice from to criticality.now in
+        let marks = in_tree.old in
+        let joined : (ℕ → Bool) = tree_has marks in
+        let weighting = weighting_due timed joined sinks criticalities in
+        let congestion = weighed_congestion weighting delay.now tariff.factor history.now users.now in
+        let tried = sinks_tried timed joined sinks criticalities in
+        let made = turn block (price_at block congestion) marks tried in
+        let count = turn_count tariff.aimed block congestion marks tried in
+        TurnDone result made count tariff net tried log.old marks log.new in_tree.new }
     ensures same_from { SameFrom (8 * length kind.now) work.old work.new }
 {
     let tried = order::next_tried(timed, sink, criticality, from, to, in_tree);
@@ -324,29 +315,25 @@ fn go_on(
     work: &mut [u64],
     log: &mut [u32],
 ) -> RouteAnswer
-    requires* fact { do
-      let job = job_of kind.now capacity.now first_edge.now edge_target.now source.now first_sink.now sink.now
-          delay.now criticality.now terms
-      ⌜ (Routable job × (nets job ≤ unreachable_net job) × (8 * nodes job ≤ length work.old))
-          × SomeReady job begun history.old users.old in_tree.old tree_from.old tree_to.old due.old log.old ⌝ }
-    requires* fact_2 { do
-      let block = block_of kind.now capacity.now first_edge.now edge_target.now
-      ⌜ BackLent begun.aimed block first_back.now back_source.now ⌝ }
-    ensures* fact_3 { do
-      let job = job_of kind.now capacity.now first_edge.now edge_target.now
-          source.now first_sink.now sink.now delay.now criticality.now terms
-      ⌜ ((p : Progress)
-          → Ready job p begun history.old users.old in_tree.old tree_from.old
-          tree_to.old due.old log.old
-          → route_reply_of result work.new log.new ≡ continued job p work.old log.old) ⌝ }
-    ensures* expanded { do
-      let job = job_of kind.now capacity.now first_edge.now edge_target.now
-          source.now first_sink.now sink.now delay.now criticality.now terms
-      let made = turns_logged (route_reply_of result work.new log.new)
-      ⌜ ((p : Progress) (m : ℕ)
-          → Ready job p begun history.old users.old in_tree.old tree_from.old
-          tree_to.old due.old log.old
-          → Ran job m p.records p.state → result.expanded ≡ expanded_after begun.aimed job p.records made) ⌝ }
+    requires ready { let job = job_of kind.now capacity.now first_edge.now edge_target.now source.now first_sink.now sink.now
+        delay.now criticality.now terms in
+        (Routable job × (nets job ≤ unreachable_net job) × (8 * nodes job ≤ length work.old))
+        × SomeReady job begun history.old users.old in_tree.old tree_from.old tree_to.old due.old log.old }
+    requires back_lent { let block = block_of kind.now capacity.now first_edge.now edge_target.now in
+        BackLent begun.aimed block first_back.now back_source.now }
+    ensures answers { let job = job_of kind.now capacity.now first_edge.now edge_target.now
+        source.now first_sink.now sink.now delay.now criticality.now terms in
+        ((p : Progress)
+        → Ready job p begun history.old users.old in_tree.old tree_from.old
+        tree_to.old due.old log.old
+        → route_reply_of result work.new log.new ≡ continued job p work.old log.old) }
+    ensures expanded { let job = job_of kind.now capacity.now first_edge.now edge_target.now
+        source.now first_sink.now sink.now delay.now criticality.now terms in
+        let made = turns_logged (route_reply_of result work.new log.new) in
+        ((p : Progress) (m : ℕ)
+        → Ready job p begun history.old users.old in_tree.old tree_from.old
+        tree_to.old due.old log.old
+        → Ran job m p.records p.state → result.expanded ≡ expanded_after begun.aimed job p.records made) }
 {
     let n = kind.len();
     let mut tariff = begun;
@@ -439,17 +426,15 @@ fn start_at(
     work: &mut [u64],
     log: &[u32],
 ) -> Taken
-    requires* { do
-      let job = job_of kind.now capacity.now first_edge.now edge_target.now source.now first_sink.now sink.now
-          delay.now criticality.now terms
-      ⌜ Routable job × (8 * nodes job ≤ length work.old)
-          × Ready job (first_progress job) begun history.old users.old in_tree.old tree_from.old tree_to.old due.old
-          log.now ⌝ }
-    ensures* fact { do
-      let job = job_of kind.now capacity.now first_edge.now edge_target.now
-          source.now first_sink.now sink.now delay.now criticality.now terms
-      ⌜ Started result start job history.new users.new in_tree.new tree_from.new
-          tree_to.new due.new log.now ⌝ }
+    requires { let job = job_of kind.now capacity.now first_edge.now edge_target.now source.now first_sink.now sink.now
+        delay.now criticality.now terms in
+        Routable job × (8 * nodes job ≤ length work.old)
+        × Ready job (first_progress job) begun history.old users.old in_tree.old tree_from.old tree_to.old due.old
+        log.now }
+    ensures started { let job = job_of kind.now capacity.now first_edge.now edge_target.now
+        source.now first_sink.now sink.now delay.now criticality.now terms in
+        Started result start job history.new users.new in_tree.new tree_from.new
+        tree_to.new due.new log.now }
     ensures same_from { SameFrom (8 * length kind.now) work.old work.new }
 {
     match start {
@@ -509,24 +494,20 @@ fn run_from(
     work: &mut [u64],
     log: &mut [u32],
 ) -> RouteAnswer
-    requires* fact { do
-      let job = job_of kind.now capacity.now first_edge.now edge_target.now source.now first_sink.now sink.now
-          delay.now criticality.now terms
-      ⌜ (Routable job × (nets job ≤ unreachable_net job) × (8 * nodes job ≤ length work.old))
-          × Ready job (first_progress job) begun history.old users.old in_tree.old tree_from.old tree_to.old due.old
-          log.old ⌝ }
-    requires* fact_2 { do
-      let block = block_of kind.now capacity.now first_edge.now edge_target.now
-      ⌜ BackLent begun.aimed block first_back.now back_source.now ⌝ }
-    ensures* log_after { do
-      let job = job_of kind.now capacity.now first_edge.now edge_target.now
-          source.now first_sink.now sink.now delay.now criticality.now terms
-      ⌜ route_reply_of result work.new log.new ≡ run_from start job work.old log.old ⌝ }
-    ensures* expanded { do
-      let job = job_of kind.now capacity.now first_edge.now edge_target.now
-          source.now first_sink.now sink.now delay.now criticality.now terms
-      let made = turns_logged (route_reply_of result work.new log.new)
-      ⌜ result.expanded ≡ expanded_after begun.aimed job (lent_records start log.old) made ⌝ }
+    requires ready { let job = job_of kind.now capacity.now first_edge.now edge_target.now source.now first_sink.now sink.now
+        delay.now criticality.now terms in
+        (Routable job × (nets job ≤ unreachable_net job) × (8 * nodes job ≤ length work.old))
+        × Ready job (first_progress job) begun history.old users.old in_tree.old tree_from.old tree_to.old due.old
+        log.old }
+    requires back_lent { let block = block_of kind.now capacity.now first_edge.now edge_target.now in
+        BackLent begun.aimed block first_back.now back_source.now }
+    ensures answers { let job = job_of kind.now capacity.now first_edge.now edge_target.now
+        source.now first_sink.now sink.now delay.now criticality.now terms in
+        route_reply_of result work.new log.new ≡ run_from start job work.old log.old }
+    ensures expanded { let job = job_of kind.now capacity.now first_edge.now edge_target.now
+        source.now first_sink.now sink.now delay.now criticality.now terms in
+        let made = turns_logged (route_reply_of result work.new log.new) in
+        result.expanded ≡ expanded_after begun.aimed job (lent_records start log.old) made }
 {
     let taken = start_at(
         kind,
@@ -604,23 +585,20 @@ fn run_listed(
     work: &mut [u64],
     log: &mut [u32],
 ) -> RouteAnswer
-    requires* fact { do
-      let job = job_of kind.now capacity.now first_edge.now edge_target.now source.now first_sink.now sink.now
-          delay.now criticality.now terms
-      ⌜ (Routable job × (nets job ≤ unreachable_net job) × (8 * nodes job ≤ length work.old))
-          × Ready job (first_progress job) begun history.old users.old in_tree.old tree_from.old tree_to.old due.old
-          log.old ⌝ }
+    requires ready { let job = job_of kind.now capacity.now first_edge.now edge_target.now source.now first_sink.now sink.now
+        delay.now criticality.now terms in
+        (Routable job × (nets job ≤ unreachable_net job) × (8 * nodes job ≤ length work.old))
+        × Ready job (first_progress job) begun history.old users.old in_tree.old tree_from.old tree_to.old due.old
+        log.old }
     requires fitting { Fitting first_edge.now edge_target.now first_back.old back_source.old
         × ((v : ℕ) → v < length first_back.old → get_or first_back.old v 0 ≡ 0) }
-    ensures* log_after { do
-      let job = job_of kind.now capacity.now first_edge.now edge_target.now
-          source.now first_sink.now sink.now delay.now criticality.now terms
-      ⌜ route_reply_of result work.new log.new ≡ run_from start job work.old log.old ⌝ }
-    ensures* expanded { do
-      let job = job_of kind.now capacity.now first_edge.now edge_target.now
-          source.now first_sink.now sink.now delay.now criticality.now terms
-      let made = turns_logged (route_reply_of result work.new log.new)
-      ⌜ result.expanded ≡ expanded_after begun.aimed job (lent_records start log.old) made ⌝ }
+    ensures answers { let job = job_of kind.now capacity.now first_edge.now edge_target.now
+        source.now first_sink.now sink.now delay.now criticality.now terms in
+        route_reply_of result work.new log.new ≡ run_from start job work.old log.old }
+    ensures expanded { let job = job_of kind.now capacity.now first_edge.now edge_target.now
+        source.now first_sink.now sink.now delay.now criticality.now terms in
+        let made = turns_logged (route_reply_of result work.new log.new) in
+        result.expanded ≡ expanded_after begun.aimed job (lent_records start log.old) made }
 {
     back::list_by_target(kind, first_edge, edge_target, first_back, back_source);
     run_from(
@@ -672,21 +650,18 @@ fn run_aimed(
     work: &mut [u64],
     log: &mut [u32],
 ) -> RouteAnswer
-    requires* { do
-      let job = job_of kind.now capacity.now first_edge.now edge_target.now source.now first_sink.now sink.now
-          delay.now criticality.now terms
-      ⌜ (Routable job × (nets job ≤ unreachable_net job) × (8 * nodes job ≤ length work.old))
-          × Ready job (first_progress job) begun history.old users.old in_tree.old tree_from.old tree_to.old due.old
-          log.old ⌝ }
-    ensures* log_after { do
-      let job = job_of kind.now capacity.now first_edge.now edge_target.now
-          source.now first_sink.now sink.now delay.now criticality.now terms
-      ⌜ route_reply_of result work.new log.new ≡ run_from start job work.old log.old ⌝ }
-    ensures* expanded { do
-      let job = job_of kind.now capacity.now first_edge.now edge_target.now
-          source.now first_sink.now sink.now delay.now criticality.now terms
-      let made = turns_logged (route_reply_of result work.new log.new)
-      ⌜ result.expanded ≡ expanded_after begun.aimed job (lent_records start log.old) made ⌝ }
+    requires { let job = job_of kind.now capacity.now first_edge.now edge_target.now source.now first_sink.now sink.now
+        delay.now criticality.now terms in
+        (Routable job × (nets job ≤ unreachable_net job) × (8 * nodes job ≤ length work.old))
+        × Ready job (first_progress job) begun history.old users.old in_tree.old tree_from.old tree_to.old due.old
+        log.old }
+    ensures answers { let job = job_of kind.now capacity.now first_edge.now edge_target.now
+        source.now first_sink.now sink.now delay.now criticality.now terms in
+        route_reply_of result work.new log.new ≡ run_from start job work.old log.old }
+    ensures expanded { let job = job_of kind.now capacity.now first_edge.now edge_target.now
+        source.now first_sink.now sink.now delay.now criticality.now terms in
+        let made = turns_logged (route_reply_of result work.new log.new) in
+        result.expanded ≡ expanded_after begun.aimed job (lent_records start log.old) made }
 {
     let n = kind.len();
     let edges = edge_target.len();
@@ -741,21 +716,18 @@ fn run_chosen(
     work: &mut [u64],
     log: &mut [u32],
 ) -> RouteAnswer
-    requires* { do
-      let job = job_of kind.now capacity.now first_edge.now edge_target.now source.now first_sink.now sink.now
-          delay.now criticality.now terms
-      ⌜ (Routable job × (nets job ≤ unreachable_net job) × (8 * nodes job ≤ length work.old))
-          × Ready job (first_progress job) begun history.old users.old in_tree.old tree_from.old tree_to.old due.old
-          log.old ⌝ }
-    ensures* log_after { do
-      let job = job_of kind.now capacity.now first_edge.now edge_target.now
-          source.now first_sink.now sink.now delay.now criticality.now terms
-      ⌜ route_reply_of result work.new log.new ≡ run_from start job work.old log.old ⌝ }
-    ensures* expanded { do
-      let job = job_of kind.now capacity.now first_edge.now edge_target.now
-          source.now first_sink.now sink.now delay.now criticality.now terms
-      let made = turns_logged (route_reply_of result work.new log.new)
-      ⌜ result.expanded ≡ expanded_after begun.aimed job (lent_records start log.old) made ⌝ }
+    requires { let job = job_of kind.now capacity.now first_edge.now edge_target.now source.now first_sink.now sink.now
+        delay.now criticality.now terms in
+        (Routable job × (nets job ≤ unreachable_net job) × (8 * nodes job ≤ length work.old))
+        × Ready job (first_progress job) begun history.old users.old in_tree.old tree_from.old tree_to.old due.old
+        log.old }
+    ensures answers { let job = job_of kind.now capacity.now first_edge.now edge_target.now
+        source.now first_sink.now sink.now delay.now criticality.now terms in
+        route_reply_of result work.new log.new ≡ run_from start job work.old log.old }
+    ensures expanded { let job = job_of kind.now capacity.now first_edge.now edge_target.now
+        source.now first_sink.now sink.now delay.now criticality.now terms in
+        let made = turns_logged (route_reply_of result work.new log.new) in
+        result.expanded ≡ expanded_after begun.aimed job (lent_records start log.old) made }
 {
     if begun.aimed {
         return run_aimed(
@@ -824,19 +796,16 @@ pub fn negotiate(
     work: &mut [u64],
     log: &mut [u32],
 ) -> RouteAnswer
-    requires* { do
-      let job = job_of kind.now capacity.now first_edge.now edge_target.now source.now first_sink.now sink.now
-          delay.now criticality.now terms
-      ⌜ Routable job × (nets job ≤ unreachable_net job) × (8 * nodes job ≤ length work.old) ⌝ }
-    ensures* log_after { do
-      let job = job_of kind.now capacity.now first_edge.now edge_target.now
-          source.now first_sink.now sink.now delay.now criticality.now terms
-      ⌜ route_reply_of result work.new log.new ≡ run_from start job work.old log.old ⌝ }
-    ensures* expanded { do
-      let job = job_of kind.now capacity.now first_edge.now edge_target.now
-          source.now first_sink.now sink.now delay.now criticality.now terms
-      let made = turns_logged (route_reply_of result work.new log.new)
-      ⌜ result.expanded ≡ expanded_after aimed job (lent_records start log.old) made ⌝ }
+    requires { let job = job_of kind.now capacity.now first_edge.now edge_target.now source.now first_sink.now sink.now
+        delay.now criticality.now terms in
+        Routable job × (nets job ≤ unreachable_net job) × (8 * nodes job ≤ length work.old) }
+    ensures answers { let job = job_of kind.now capacity.now first_edge.now edge_target.now
+        source.now first_sink.now sink.now delay.now criticality.now terms in
+        route_reply_of result work.new log.new ≡ run_from start job work.old log.old }
+    ensures expanded { let job = job_of kind.now capacity.now first_edge.now edge_target.now
+        source.now first_sink.now sink.now delay.now criticality.now terms in
+        let made = turns_logged (route_reply_of result work.new log.new) in
+        result.expanded ≡ expanded_after aimed job (lent_records start log.old) made }
 {
     let n = kind.len();
     let nets = source.len();

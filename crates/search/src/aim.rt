@@ -49,11 +49,10 @@ fn lesser(a: u64, b: u64) -> u64
 fn shorten(work: &mut [u64], n: usize, u: usize, v: usize, d: u64, r: Reach) -> Reach
     requires u_lt_n { (u < n) × (v < n) × (8 * n ≤ length work.old) × Tournament n work.old × (d ≤ reach_most) × (d < dist_at work.old v) }
     requires v_bound { (estimate_at n work.old v ≡ far → ⊥) → d + estimate_at n work.old v < 2 ^ 64 }
-    ensures* { do
-      let before = work.old
-      let after = work.new
-      ⌜ Shortened n u v d before after × (BestAim n r.best before → BestAim n result.best after)
-          × (LowAim n r.low before → LowAim n result.low after) ⌝ }
+    ensures { let before = work.old in
+        let after = work.new in
+        Shortened n u v d before after × (BestAim n r.best before → BestAim n result.best after)
+        × (LowAim n r.low before → LowAim n result.low after) }
 {
     work[v] = d;
     work[4 * n + v] = u as u64;
@@ -86,20 +85,17 @@ fn aim(
     d: u64,
     r: Reach,
 ) -> Reach
-    requires* fact { do
-      let n = length kind.now
-      ⌜ (u < n) × (v < n) × (8 * n ≤ length work.old) × Tournament n work.old × (length first_back.now ≡ n + 1)
-          × (d ≤ reach_most) ⌝ }
-    requires* fact_2 { do
-      let n = length kind.now
-      ⌜ ((estimate_at n work.old v ≡ far → ⊥) → d + estimate_at n work.old v < 2 ^ 64) ⌝ }
-    ensures* { do
-      let n = length kind.now
-      let before = work.old
-      let after = work.new
-      let listed = has_edge (graph_of kind.now first_back.now back_source.now) v u
-      ⌜ AimedOver n u v d listed before after × (BestAim n r.best before → BestAim n result.best after)
-          × (LowAim n r.low before → LowAim n result.low after) ⌝ }
+    requires ready { let n = length kind.now in
+        (u < n) × (v < n) × (8 * n ≤ length work.old) × Tournament n work.old × (length first_back.now ≡ n + 1)
+        × (d ≤ reach_most) }
+    requires back_lent { let n = length kind.now in
+        ((estimate_at n work.old v ≡ far → ⊥) → d + estimate_at n work.old v < 2 ^ 64) }
+    ensures { let n = length kind.now in
+        let before = work.old in
+        let after = work.new in
+        let listed = has_edge (graph_of kind.now first_back.now back_source.now) v u in
+        AimedOver n u v d listed before after × (BestAim n r.best before → BestAim n result.best after)
+        × (LowAim n r.low before → LowAim n result.low after) }
 {
     let n = kind.len();
     let old = work[v];
@@ -138,21 +134,19 @@ fn aim_row(
     u: usize,
     start: Reach,
 ) -> Reach
-    requires* { do
-      let n = length kind.now
-      let c = weighed_congestion weighting delay.now factor history.now others.now
-      ⌜ ListsLong kind.now capacity.now c × (length first_edge.now ≡ n + 1) × (length first_back.now ≡ n + 1)
-          × AimRowReady n work.old u ⌝ }
-    ensures* { do
-      let kinds = kind.now
-      let n = length kinds
-      let c = weighed_congestion weighting delay.now factor history.now others.now
-      let b = graph_of kinds first_edge.now edge_target.now
-      let back = graph_of kinds first_back.now back_source.now
-      let before = work.old
-      let after = work.new
-      ⌜ AimedRow n (in_both b back) (clamped_price kinds capacity.now c) u before after
-          × (BestAim n start.best before → BestAim n result.best after) × (LowAim n start.low before → LowAim n result.low after) ⌝ }
+    requires { let n = length kind.now in
+        let c = weighed_congestion weighting delay.now factor history.now others.now in
+        ListsLong kind.now capacity.now c × (length first_edge.now ≡ n + 1) × (length first_back.now ≡ n + 1)
+        × AimRowReady n work.old u }
+    ensures { let kinds = kind.now in
+        let n = length kinds in
+        let c = weighed_congestion weighting delay.now factor history.now others.now in
+        let b = graph_of kinds first_edge.now edge_target.now in
+        let back = graph_of kinds first_back.now back_source.now in
+        let before = work.old in
+        let after = work.new in
+        AimedRow n (in_both b back) (clamped_price kinds capacity.now c) u before after
+        × (BestAim n start.best before → BestAim n result.best after) × (LowAim n start.low before → LowAim n result.low after) }
 {
     let n = kind.len();
     let d = work[u];
@@ -190,22 +184,20 @@ pub fn expand_next(
     work: &mut [u64],
     r: Reach,
 ) -> Reach
-    requires* { do
-      let n = length kind.now
-      let c = weighed_congestion weighting delay.now factor history.now others.now
-      ⌜ ListsLong kind.now capacity.now c × (length first_edge.now ≡ n + 1) × (length first_back.now ≡ n + 1)
-          × ExpandReady n work.old ⌝ }
-    ensures* { do
-      let kinds = kind.now
-      let n = length kinds
-      let c = weighed_congestion weighting delay.now factor history.now others.now
-      let b = graph_of kinds first_edge.now edge_target.now
-      let back = graph_of kinds first_back.now back_source.now
-      let price = clamped_price kinds capacity.now c
-      let before = work.old
-      let after = work.new
-      ⌜ ((u : ℕ) × Expanded n (in_both b back) price before after u) × (BestAim n r.best before → BestAim n result.best after)
-          × (LowAim n r.low before → LowAim n result.low after) ⌝ }
+    requires { let n = length kind.now in
+        let c = weighed_congestion weighting delay.now factor history.now others.now in
+        ListsLong kind.now capacity.now c × (length first_edge.now ≡ n + 1) × (length first_back.now ≡ n + 1)
+        × ExpandReady n work.old }
+    ensures { let kinds = kind.now in
+        let n = length kinds in
+        let c = weighed_congestion weighting delay.now factor history.now others.now in
+        let b = graph_of kinds first_edge.now edge_target.now in
+        let back = graph_of kinds first_back.now back_source.now in
+        let price = clamped_price kinds capacity.now c in
+        let before = work.old in
+        let after = work.new in
+        ((u : ℕ) × Expanded n (in_both b back) price before after u) × (BestAim n r.best before → BestAim n result.best after)
+        × (LowAim n r.low before → LowAim n result.low after) }
 {
     let n = kind.len();
     let u = queue::nearest(work, n);

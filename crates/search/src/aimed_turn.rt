@@ -30,9 +30,8 @@ struct Aimed {
 // Entries from `from` to below `to` hold FAR. A loop of its own, which is compiled to a call that fills memory.
 fn fill_far(work: &mut [u64], from: usize, to: usize)
     requires { (from ≤ to) × (to ≤ length work.old) }
-    ensures* { do
-      let after = work.new
-      ⌜ SameBut from to work.old after × ((j : ℕ) → from ≤ j → j < to → get_or after j 0 ≡ far) ⌝ }
+    ensures { let after = work.new in
+        SameBut from to work.old after × ((j : ℕ) → from ≤ j → j < to → get_or after j 0 ≡ far) }
 {
     let mut k = from;
     while k < to {
@@ -107,12 +106,11 @@ fn run(
     sinks: &[u16],
     trees: usize,
 ) -> Aimed
-    requires* { do
-      let b = block_of kind.now capacity.now first_edge.now edge_target.now
-      let back = graph_of kind.now first_back.now back_source.now
-      let c = weighed_congestion weighting delay.now factor history.now others.now
-      ⌜ TurnReady b back c in_tree.now sinks.now work.old
-          × ((w : List ℕ) × Started (length kind.now) in_tree.now w work.old trees) ⌝ }
+    requires { let b = block_of kind.now capacity.now first_edge.now edge_target.now in
+        let back = graph_of kind.now first_back.now back_source.now in
+        let c = weighed_congestion weighting delay.now factor history.now others.now in
+        TurnReady b back c in_tree.now sinks.now work.old
+        × ((w : List ℕ) × Started (length kind.now) in_tree.now w work.old trees) }
     ensures { (firsts targets backs sources : List ℕ) → do
       let b = block_of kind.now capacity.now first_edge.now edge_target.now
       let back = graph_of kind.now first_back.now back_source.now
@@ -199,11 +197,10 @@ fn move_predecessors(work: &mut [u64], n: usize)
 // Leaves the path to the joined sink at the beginning of the work slice, and 0 in the rest of it.
 fn read_aimed(sinks: &[u16], in_tree: &[u8], work: &mut [u64], n: usize, found: Aimed) -> AimedPath
     requires { Readable n in_tree.now sinks.now work.old found.cost }
-    ensures* { do
-      let marks = in_tree.now
-      let list = sinks.now
-      let before = work.old
-      ⌜ AimedRead n marks list before found.cost found.expanded result.answer result.expanded work.new ⌝ }
+    ensures { let marks = in_tree.now in
+        let list = sinks.now in
+        let before = work.old in
+        AimedRead n marks list before found.cost found.expanded result.answer result.expanded work.new }
 {
     let cost = found.cost;
     if cost == labels::FAR {
@@ -239,10 +236,9 @@ pub fn join(
     in_tree: &[u8],
     sinks: &[u16],
 ) -> AimedPath
-    requires* { do
-      let b = block_of kind.now capacity.now first_edge.now edge_target.now
-      let c = weighed_congestion weighting delay.now factor history.now others.now
-      ⌜ Fitted b c in_tree.now sinks.now work.old × (length first_back.now ≡ length kind.now + 1) ⌝ }
+    requires { let b = block_of kind.now capacity.now first_edge.now edge_target.now in
+        let c = weighed_congestion weighting delay.now factor history.now others.now in
+        Fitted b c in_tree.now sinks.now work.old × (length first_back.now ≡ length kind.now + 1) }
     ensures { (firsts targets backs sources : List ℕ) → do
       let kinds = kind.now
       let b = block_of kinds capacity.now first_edge.now edge_target.now

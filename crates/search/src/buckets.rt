@@ -14,10 +14,9 @@ pub const BUCKETS: usize = 1024;
 // Node u waits at this level.
 pub fn add(work: &mut [u64], n: usize, head: &mut [u16], u: usize, level: usize)
     requires { (u < n) × (n ≤ nodes_most) × (8 * n ≤ length work.old) × (length head.old ≡ buckets) }
-    ensures* { do
-      let b = level % buckets
-      let heads = head.old
-      ⌜ (work.new ≡ set work.old (3 * n + u) (get_or heads b 0)) × (head.new ≡ set heads b (u + 1)) ⌝ }
+    ensures { let b = level % buckets in
+        let heads = head.old in
+        (work.new ≡ set work.old (3 * n + u) (get_or heads b 0)) × (head.new ≡ set heads b (u + 1)) }
 {
     let b = level % BUCKETS;
     work[3 * n + u] = head[b] as u64;
@@ -26,14 +25,12 @@ pub fn add(work: &mut [u64], n: usize, head: &mut [u16], u: usize, level: usize)
 
 // Takes a node that waits at this level out; there is one.
 pub fn take(work: &[u64], n: usize, head: &mut [u16], level: usize) -> usize
-    requires* { do
-      let first = get_or head.old (level % buckets) 0
-      ⌜ (n ≤ nodes_most) × (8 * n ≤ length work.now) × (length head.old ≡ buckets)
-          × ((v : ℕ) × (v < n) × (first ≡ v + 1) × (link_at n work.now v ≤ n)) ⌝ }
-    ensures* { do
-      let b = level % buckets
-      let heads = head.old
-      ⌜ (get_or heads b 0 ≡ result + 1) × (head.new ≡ set heads b (link_at n work.now result)) ⌝ }
+    requires { let first = get_or head.old (level % buckets) 0 in
+        (n ≤ nodes_most) × (8 * n ≤ length work.now) × (length head.old ≡ buckets)
+        × ((v : ℕ) × (v < n) × (first ≡ v + 1) × (link_at n work.now v ≤ n)) }
+    ensures { let b = level % buckets in
+        let heads = head.old in
+        (get_or heads b 0 ≡ result + 1) × (head.new ≡ set heads b (link_at n work.now result)) }
 {
     let b = level % BUCKETS;
     let v = head[b] as usize - 1;

@@ -24,15 +24,13 @@ pub fn distances_from_tree(
     others: &[u16],
     in_tree: &[u8],
 )
-    requires* { do
-      let block = block_of kind.now capacity.now first_edge.now edge_target.now
-      let congestion = weighed_congestion weighting delay.now factor history.now others.now
-      ⌜ PricesReady kind.now capacity.now congestion in_tree.now × Sound block × (8 * length kind.now ≤ length work.old) ⌝ }
-    ensures* { do
-      let block = block_of kind.now capacity.now first_edge.now edge_target.now
-      let congestion = weighed_congestion weighting delay.now factor history.now others.now
-      let found = distances_of block (price_at block congestion) in_tree.now
-      ⌜ work.new ≡ cleared (length kind.now) found work.old ⌝ }
+    requires { let block = block_of kind.now capacity.now first_edge.now edge_target.now in
+        let congestion = weighed_congestion weighting delay.now factor history.now others.now in
+        PricesReady kind.now capacity.now congestion in_tree.now × Sound block × (8 * length kind.now ≤ length work.old) }
+    ensures { let block = block_of kind.now capacity.now first_edge.now edge_target.now in
+        let congestion = weighed_congestion weighting delay.now factor history.now others.now in
+        let found = distances_of block (price_at block congestion) in_tree.now in
+        work.new ≡ cleared (length kind.now) found work.old }
 {
     let n = kind.len();
     let waits = turn::mark_tree(in_tree, work, n);

@@ -43,18 +43,16 @@ fn wait_to_spread(
     u: usize,
     estimate: usize,
 ) -> usize
-    requires* { do
-      let n = length kind.now
-      ⌜ (u < n) × (n ≤ nodes_most) × (8 * n ≤ length work.old) × (length head.old ≡ buckets) × (length first_back.now ≡ n + 1)
-          × (estimate ≤ level_most) × (count < n) ⌝ }
-    ensures* { do
-      let n = length kind.now
-      let before = work.old
-      let after = work.new
-      let level = estimate + clamped_base kind.now u
-      let heads = head.old
-      ⌜ WaitsToSpread n first_back.now u level before after heads head.new count result
-          × ((after ≡ before) ⊎ ((x : ℕ) × (after ≡ set before (3 * n + u) x))) ⌝ }
+    requires { let n = length kind.now in
+        (u < n) × (n ≤ nodes_most) × (8 * n ≤ length work.old) × (length head.old ≡ buckets) × (length first_back.now ≡ n + 1)
+        × (estimate ≤ level_most) × (count < n) }
+    ensures { let n = length kind.now in
+        let before = work.old in
+        let after = work.new in
+        let level = estimate + clamped_base kind.now u in
+        let heads = head.old in
+        WaitsToSpread n first_back.now u level before after heads head.new count result
+        × ((after ≡ before) ⊎ ((x : ℕ) × (after ≡ set before (3 * n + u) x))) }
 {
     if first_back[u + 1] <= first_back[u] {
         return count;
@@ -75,20 +73,18 @@ fn give(
     u: usize,
     estimate: usize,
 ) -> Front
-    requires* { do
-      let n = length kind.now
-      let w = work.old
-      ⌜ (u < n) × (n ≤ nodes_most) × (length head.old ≡ buckets) × (length first_back.now ≡ n + 1) × (scale ≤ scale_most)
-          × (estimate ≤ level_most) × (f.count < n) × Sized n w × Tournament n w × (dist_at w u ≡ 0 → 0 < f.lacking) ⌝ }
-    ensures* { do
-      let n = length kind.now
-      let before = work.old
-      let after = work.new
-      let level = estimate + clamped_base kind.now u
-      let heads = head.old
-      ⌜ Given n u (scale * estimate) before after
-          × WaitsToSpread n first_back.now u level before after heads head.new f.count result.count
-          × (result.lacking ≡ choose (eqb (dist_at before u) 0) (f.lacking - 1) f.lacking) ⌝ }
+    requires { let n = length kind.now in
+        let w = work.old in
+        (u < n) × (n ≤ nodes_most) × (length head.old ≡ buckets) × (length first_back.now ≡ n + 1) × (scale ≤ scale_most)
+        × (estimate ≤ level_most) × (f.count < n) × Sized n w × Tournament n w × (dist_at w u ≡ 0 → 0 < f.lacking) }
+    ensures { let n = length kind.now in
+        let before = work.old in
+        let after = work.new in
+        let level = estimate + clamped_base kind.now u in
+        let heads = head.old in
+        Given n u (scale * estimate) before after
+        × WaitsToSpread n first_back.now u level before after heads head.new f.count result.count
+        × (result.lacking ≡ choose (eqb (dist_at before u) 0) (f.lacking - 1) f.lacking) }
 {
     let n = kind.len();
     let left = scale * estimate as u64;
@@ -121,20 +117,18 @@ fn give_before(
     v: usize,
     estimate: usize,
 ) -> Front
-    requires* { do
-      let r = graph_of kind.now first_back.now back_source.now
-      let base = clamped_base kind.now
-      ⌜ (v < length kind.now) × GiveReady r base scale estimate work.old head.old start.count start.lacking ⌝ }
-    ensures* { do
-      let r = graph_of kind.now first_back.now back_source.now
-      let n = length kind.now
-      let base = clamped_base kind.now
-      let before = work.old
-      let after = work.new
-      let heads = head.old
-      ⌜ ((l : Lined n base scale before heads start.count estimate)
-          → GivenBefore r base scale v estimate before after heads head.new start.count result.count l)
-          × (result.lacking ≡ lacking_in n after) ⌝ }
+    requires { let r = graph_of kind.now first_back.now back_source.now in
+        let base = clamped_base kind.now in
+        (v < length kind.now) × GiveReady r base scale estimate work.old head.old start.count start.lacking }
+    ensures { let r = graph_of kind.now first_back.now back_source.now in
+        let n = length kind.now in
+        let base = clamped_base kind.now in
+        let before = work.old in
+        let after = work.new in
+        let heads = head.old in
+        ((l : Lined n base scale before heads start.count estimate)
+        → GivenBefore r base scale v estimate before after heads head.new start.count result.count l)
+        × (result.lacking ≡ lacking_in n after) }
 {
     let n = kind.len();
     let to = labels::row_place(first_back, back_source.len(), v + 1);
@@ -163,21 +157,19 @@ pub fn spread_next(
     f: Front,
     level: usize,
 ) -> Front
-    requires* { do
-      let r = graph_of kind.now first_back.now back_source.now
-      let base = clamped_base kind.now
-      ⌜ ((g : GiveReady r base scale level work.old head.old f.count f.lacking)
-          × ((v : ℕ) × (waits g.lined v ≡ true) × (g.lined.level v ≡ level))) ⌝ }
-    ensures* { do
-      let r = graph_of kind.now first_back.now back_source.now
-      let n = length kind.now
-      let base = clamped_base kind.now
-      let before = work.old
-      let after = work.new
-      let heads = head.old
-      ⌜ ((l : Lined n base scale before heads f.count level)
-          → Spread r base scale level before after heads head.new f.count result.count l)
-          × (result.lacking ≡ lacking_in n after) ⌝ }
+    requires { let r = graph_of kind.now first_back.now back_source.now in
+        let base = clamped_base kind.now in
+        ((g : GiveReady r base scale level work.old head.old f.count f.lacking)
+        × ((v : ℕ) × (waits g.lined v ≡ true) × (g.lined.level v ≡ level))) }
+    ensures { let r = graph_of kind.now first_back.now back_source.now in
+        let n = length kind.now in
+        let base = clamped_base kind.now in
+        let before = work.old in
+        let after = work.new in
+        let heads = head.old in
+        ((l : Lined n base scale before heads f.count level)
+        → Spread r base scale level before after heads head.new f.count result.count l)
+        × (result.lacking ≡ lacking_in n after) }
 {
     let v = buckets::take(work, kind.len(), head, level);
     let left = Front {
@@ -208,13 +200,12 @@ pub fn give_sinks(
     in_tree: &[u8],
     sinks: &[u16],
 ) -> Front
-    requires* { do
-      let n = length kind.now
-      let w = work.old
-      ⌜ (n ≤ nodes_most) × (length first_back.now ≡ n + 1) × (1 ≤ scale) × (scale ≤ scale_most) × Sized n w × Tournament n w
-          × NoneGiven n w × (length head.old ≡ buckets) × ((b : ℕ) → b < buckets → get_or head.old b 0 ≡ 0) × (start.count ≡ 0)
-          × (start.lacking ≡ lacking_in n w) × (n ≤ length in_tree.now)
-          × ((v : ℕ) → v < n → (get_or in_tree.now v 0 ≡ 1 → ⊥) → dist_at w v ≡ far) ⌝ }
+    requires { let n = length kind.now in
+        let w = work.old in
+        (n ≤ nodes_most) × (length first_back.now ≡ n + 1) × (1 ≤ scale) × (scale ≤ scale_most) × Sized n w × Tournament n w
+        × NoneGiven n w × (length head.old ≡ buckets) × ((b : ℕ) → b < buckets → get_or head.old b 0 ≡ 0) × (start.count ≡ 0)
+        × (start.lacking ≡ lacking_in n w) × (n ≤ length in_tree.now)
+        × ((v : ℕ) → v < n → (get_or in_tree.now v 0 ≡ 1 → ⊥) → dist_at w v ≡ far) }
     ensures { ((sources : List ℕ) → do
       let r = graph_of kind.now first_back.now sources
       let list = sinks.now

@@ -65,9 +65,8 @@ pub fn clamped_price(
 ) -> u64
     requires lists_long { ListsLong kind.now capacity.now (weighed_congestion weighting delay.now factor history.now others.now) }
     requires v_in_bounds { v < length kind.now }
-    ensures* { do
-      let c = weighed_congestion weighting delay.now factor history.now others.now
-      ⌜ (result ≡ clamped_price kind.now capacity.now c v) × (result ≤ weighed_most weighting) ⌝ }
+    ensures { let c = weighed_congestion weighting delay.now factor history.now others.now in
+        (result ≡ clamped_price kind.now capacity.now c v) × (result ≤ weighed_most weighting) }
 {
     let k = clamped(0, price::KIND_MOST, kind[v] as u32);
     let f = clamped(0, price::FACTOR_MOST, factor);
@@ -175,10 +174,9 @@ fn label(
     r: Reach,
 ) -> Reach
     requires { LabelReady n first_edge.now work.old r.count u v }
-    ensures* fact { do
-      let firsts = first_edge.now
-      let targets = edge_target.now
-      ⌜ Labelled n firsts targets goals u v d work.old work.new r.count result.count ⌝ }
+    ensures labelled { let firsts = first_edge.now in
+        let targets = edge_target.now in
+        Labelled n firsts targets goals u v d work.old work.new r.count result.count }
     ensures goal_met { GoalMet (label_at work.old v) d r.best result.best }
 {
     let best = met(work[v], d, r.best);
@@ -230,16 +228,14 @@ fn relax(
     d: u64,
     r: Reach,
 ) -> Reach
-    requires* { do
-      let c = weighed_congestion weighting delay.now factor history.now others.now
-      ⌜ RelaxReady kind.now capacity.now c first_edge.now work.old r.count u v d ⌝ }
-    ensures* { do
-      let c = weighed_congestion weighting delay.now factor history.now others.now
-      let price = clamped_price kind.now capacity.now c
-      let n = length kind.now
-      let firsts = first_edge.now
-      let targets = edge_target.now
-      ⌜ EdgeRelaxed n firsts targets goals price u v d work.old work.new r.count result.count r.best result.best ⌝ }
+    requires { let c = weighed_congestion weighting delay.now factor history.now others.now in
+        RelaxReady kind.now capacity.now c first_edge.now work.old r.count u v d }
+    ensures { let c = weighed_congestion weighting delay.now factor history.now others.now in
+        let price = clamped_price kind.now capacity.now c in
+        let n = length kind.now in
+        let firsts = first_edge.now in
+        let targets = edge_target.now in
+        EdgeRelaxed n firsts targets goals price u v d work.old work.new r.count result.count r.best result.best }
 {
     let n = kind.len();
     if n <= v {
@@ -272,17 +268,15 @@ fn settle(
     u: usize,
     start: Reach,
 ) -> Reach
-    requires* { do
-      let b = graph_of kind.now first_edge.now edge_target.now
-      let c = weighed_congestion weighting delay.now factor history.now others.now
-      let price = clamped_price kind.now capacity.now c
-      ⌜ ListsLong kind.now capacity.now c × SettleReady b price goals work.old start.count u ⌝ }
-    ensures* { do
-      let b = graph_of kind.now first_edge.now edge_target.now
-      let c = weighed_congestion weighting delay.now factor history.now others.now
-      let price = clamped_price kind.now capacity.now c
-      let level = label_at work.old u
-      ⌜ NodeSettled b price goals level u work.old work.new start.count result.count start.best result.best ⌝ }
+    requires { let b = graph_of kind.now first_edge.now edge_target.now in
+        let c = weighed_congestion weighting delay.now factor history.now others.now in
+        let price = clamped_price kind.now capacity.now c in
+        ListsLong kind.now capacity.now c × SettleReady b price goals work.old start.count u }
+    ensures { let b = graph_of kind.now first_edge.now edge_target.now in
+        let c = weighed_congestion weighting delay.now factor history.now others.now in
+        let price = clamped_price kind.now capacity.now c in
+        let level = label_at work.old u in
+        NodeSettled b price goals level u work.old work.new start.count result.count start.best result.best }
 {
     let d = work[u];
     let to = row_place(first_edge, edge_target.len(), u + 1);
@@ -330,16 +324,14 @@ pub fn settle_all(
     waits: usize,
     last_step: u64,
 ) -> u64
-    requires* { do
-      let b = graph_of kind.now first_edge.now edge_target.now
-      let c = weighed_congestion weighting delay.now factor history.now others.now
-      let price = clamped_price kind.now capacity.now c
-      ⌜ ListsLong kind.now capacity.now c × RunReady b price goals work.old waits last_step ⌝ }
-    ensures* { do
-      let b = graph_of kind.now first_edge.now edge_target.now
-      let c = weighed_congestion weighting delay.now factor history.now others.now
-      let price = clamped_price kind.now capacity.now c
-      ⌜ SpreadStopped b price goals last_step work.old work.new result ⌝ }
+    requires { let b = graph_of kind.now first_edge.now edge_target.now in
+        let c = weighed_congestion weighting delay.now factor history.now others.now in
+        let price = clamped_price kind.now capacity.now c in
+        ListsLong kind.now capacity.now c × RunReady b price goals work.old waits last_step }
+    ensures { let b = graph_of kind.now first_edge.now edge_target.now in
+        let c = weighed_congestion weighting delay.now factor history.now others.now in
+        let price = clamped_price kind.now capacity.now c in
+        SpreadStopped b price goals last_step work.old work.new result }
 {
     let n = kind.len();
     let mut r = Reach {

@@ -98,10 +98,9 @@ fn faulty_with_delays(
     weighting: Weighting,
     delay: &[u16],
 ) -> u32
-    ensures* { do
-      let block = block_of kind.now capacity.now first_edge.now edge_target.now
-      let turn : (ℕ → List ℕ → List ℕ → Congestion) = weighed_congestion weighting delay.now
-      ⌜ ((factor : ℕ) (histories others : List ℕ) → result ≡ faulty_with_delays block (turn factor histories others)) ⌝ }
+    ensures { let block = block_of kind.now capacity.now first_edge.now edge_target.now in
+        let turn : (ℕ → List ℕ → List ℕ → Congestion) = weighed_congestion weighting delay.now in
+        ((factor : ℕ) (histories others : List ℕ) → result ≡ faulty_with_delays block (turn factor histories others)) }
 {
     let table = tables::faulty_table(kind, capacity, first_edge, edge_target);
     if 1 <= table {
@@ -125,14 +124,12 @@ fn searched(
     others: &[u16],
     in_tree: &[u8],
 ) -> SearchAnswer
-    ensures* answers { do
-      let block = block_of kind.now capacity.now first_edge.now edge_target.now
-      let congestion = weighed_congestion weighting delay.now factor history.now others.now
-      ⌜ search_reply_of result work.new ≡ timed_search_reply block congestion in_tree.now work.old ⌝ }
-    ensures* distances { do
-      let block = block_of kind.now capacity.now first_edge.now edge_target.now
-      let congestion = weighed_congestion weighting delay.now factor history.now others.now
-      ⌜ LeavesLeastCosts block (price_at block congestion) in_tree.now result work.new ⌝ }
+    ensures answers { let block = block_of kind.now capacity.now first_edge.now edge_target.now in
+        let congestion = weighed_congestion weighting delay.now factor history.now others.now in
+        search_reply_of result work.new ≡ timed_search_reply block congestion in_tree.now work.old }
+    ensures distances { let block = block_of kind.now capacity.now first_edge.now edge_target.now in
+        let congestion = weighed_congestion weighting delay.now factor history.now others.now in
+        LeavesLeastCosts block (price_at block congestion) in_tree.now result work.new }
 {
     let table = faulty_with_delays(kind, capacity, first_edge, edge_target, weighting, delay);
     match numbers::first_refusal(
@@ -181,14 +178,12 @@ pub fn search(
     others: &[u16],
     in_tree: &[u8],
 ) -> SearchAnswer
-    ensures* answers { do
-      let block = block_of kind.now capacity.now first_edge.now edge_target.now
-      let congestion = congestion_of factor history.now others.now
-      ⌜ search_reply_of result work.new ≡ search_reply block congestion in_tree.now work.old ⌝ }
-    ensures* distances { do
-      let block = block_of kind.now capacity.now first_edge.now edge_target.now
-      let congestion = congestion_of factor history.now others.now
-      ⌜ LeavesLeastCosts block (price_at block congestion) in_tree.now result work.new ⌝ }
+    ensures answers { let block = block_of kind.now capacity.now first_edge.now edge_target.now in
+        let congestion = congestion_of factor history.now others.now in
+        search_reply_of result work.new ≡ search_reply block congestion in_tree.now work.old }
+    ensures distances { let block = block_of kind.now capacity.now first_edge.now edge_target.now in
+        let congestion = congestion_of factor history.now others.now in
+        LeavesLeastCosts block (price_at block congestion) in_tree.now result work.new }
 {
     let weighting = Weighting {
         timed: false,
@@ -223,14 +218,12 @@ pub fn timed_search(
     others: &[u16],
     in_tree: &[u8],
 ) -> SearchAnswer
-    ensures* answers { do
-      let block = block_of kind.now capacity.now first_edge.now edge_target.now
-      let congestion = timed_congestion criticality delay.now factor history.now others.now
-      ⌜ search_reply_of result work.new ≡ timed_search_reply block congestion in_tree.now work.old ⌝ }
-    ensures* distances { do
-      let block = block_of kind.now capacity.now first_edge.now edge_target.now
-      let congestion = timed_congestion criticality delay.now factor history.now others.now
-      ⌜ LeavesLeastCosts block (price_at block congestion) in_tree.now result work.new ⌝ }
+    ensures answers { let block = block_of kind.now capacity.now first_edge.now edge_target.now in
+        let congestion = timed_congestion criticality delay.now factor history.now others.now in
+        search_reply_of result work.new ≡ timed_search_reply block congestion in_tree.now work.old }
+    ensures distances { let block = block_of kind.now capacity.now first_edge.now edge_target.now in
+        let congestion = timed_congestion criticality delay.now factor history.now others.now in
+        LeavesLeastCosts block (price_at block congestion) in_tree.now result work.new }
 {
     let weighting = Weighting {
         timed: true,
@@ -262,11 +255,10 @@ fn faulty_with_sinks(
     delay: &[u16],
     sinks: &[u16],
 ) -> u32
-    ensures* { do
-      let block = block_of kind.now capacity.now first_edge.now edge_target.now
-      let listed = sinks.now
-      let turn : (ℕ → List ℕ → List ℕ → Congestion) = weighed_congestion weighting delay.now
-      ⌜ ((factor : ℕ) (histories others : List ℕ) → result ≡ faulty_with_sinks block (turn factor histories others) listed) ⌝ }
+    ensures { let block = block_of kind.now capacity.now first_edge.now edge_target.now in
+        let listed = sinks.now in
+        let turn : (ℕ → List ℕ → List ℕ → Congestion) = weighed_congestion weighting delay.now in
+        ((factor : ℕ) (histories others : List ℕ) → result ≡ faulty_with_sinks block (turn factor histories others) listed) }
 {
     let table = tables::faulty_table(kind, capacity, first_edge, edge_target);
     if 1 <= table {
@@ -293,12 +285,11 @@ fn refused(
     in_tree: &[u8],
     sinks: &[u16],
 ) -> PathAnswer
-    ensures* { do
-      let block = block_of kind.now capacity.now first_edge.now edge_target.now
-      let congestion = weighed_congestion weighting delay.now factor history.now others.now
-      let table = faulty_with_sinks block congestion sinks.now
-      let due = refusal_of table (length kind.now) congestion in_tree.now entries
-      ⌜ (path_refusal result ≡ due) × (path_numbers result ≡ []) ⌝ }
+    ensures { let block = block_of kind.now capacity.now first_edge.now edge_target.now in
+        let congestion = weighed_congestion weighting delay.now factor history.now others.now in
+        let table = faulty_with_sinks block congestion sinks.now in
+        let due = refusal_of table (length kind.now) congestion in_tree.now entries in
+        (path_refusal result ≡ due) × (path_numbers result ≡ []) }
 {
     let table = faulty_with_sinks(
         kind,
@@ -403,16 +394,14 @@ pub fn cheapest_path(
     in_tree: &[u8],
     sinks: &[u16],
 ) -> PathAnswer
-    ensures* answers { do
-      let block = block_of kind.now capacity.now first_edge.now edge_target.now
-      let congestion = weighed_congestion weighting delay.now factor history.now others.now
-      let reply = path_reply block congestion in_tree.now sinks.now work.old
-      ⌜ path_reply_of result work.new ≡ reply ⌝ }
-    ensures* cheapest { do
-      let block = block_of kind.now capacity.now first_edge.now edge_target.now
-      let congestion = weighed_congestion weighting delay.now factor history.now others.now
-      let due = path_due block congestion in_tree.now sinks.now work.old
-      ⌜ (due ≡ [] → JoinsCheapest block (price_at block congestion) in_tree.now sinks.now result work.new) ⌝ }
+    ensures answers { let block = block_of kind.now capacity.now first_edge.now edge_target.now in
+        let congestion = weighed_congestion weighting delay.now factor history.now others.now in
+        let reply = path_reply block congestion in_tree.now sinks.now work.old in
+        path_reply_of result work.new ≡ reply }
+    ensures cheapest { let block = block_of kind.now capacity.now first_edge.now edge_target.now in
+        let congestion = weighed_congestion weighting delay.now factor history.now others.now in
+        let due = path_due block congestion in_tree.now sinks.now work.old in
+        (due ≡ [] → JoinsCheapest block (price_at block congestion) in_tree.now sinks.now result work.new) }
 {
     let fit = fits(
         kind.len(),
@@ -477,22 +466,20 @@ pub fn aimed_path(
     in_tree: &[u8],
     sinks: &[u16],
 ) -> AimedPath
-    ensures* answers { do
-      let kinds = kind.now
-      let block = block_of kinds capacity.now first_edge.now edge_target.now
-      let back = graph_of kinds first_back.now back_source.now
-      let congestion = weighed_congestion weighting delay.now factor history.now others.now
-      let reply = aimed_path_reply block back congestion in_tree.now sinks.now work.old
-      ⌜ aimed_path_reply_of result work.new ≡ reply ⌝ }
-    ensures* cheapest { do
-      let kinds = kind.now
-      let block = block_of kinds capacity.now first_edge.now edge_target.now
-      let back = graph_of kinds first_back.now back_source.now
-      let congestion = weighed_congestion weighting delay.now factor history.now others.now
-      let marks = in_tree.now
-      let list = sinks.now
-      let due = path_due block congestion marks list work.old
-      ⌜ (due ≡ [] → ListsBack block back → JoinsCheapest block (price_at block congestion) marks list result.answer work.new) ⌝ }
+    ensures answers { let kinds = kind.now in
+        let block = block_of kinds capacity.now first_edge.now edge_target.now in
+        let back = graph_of kinds first_back.now back_source.now in
+        let congestion = weighed_congestion weighting delay.now factor history.now others.now in
+        let reply = aimed_path_reply block back congestion in_tree.now sinks.now work.old in
+        aimed_path_reply_of result work.new ≡ reply }
+    ensures cheapest { let kinds = kind.now in
+        let block = block_of kinds capacity.now first_edge.now edge_target.now in
+        let back = graph_of kinds first_back.now back_source.now in
+        let congestion = weighed_congestion weighting delay.now factor history.now others.now in
+        let marks = in_tree.now in
+        let list = sinks.now in
+        let due = path_due block congestion marks list work.old in
+        (due ≡ [] → ListsBack block back → JoinsCheapest block (price_at block congestion) marks list result.answer work.new) }
 {
     let fit = fits(
         kind.len(),

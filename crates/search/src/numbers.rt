@@ -20,9 +20,8 @@ fn node_sound(
     in_tree: &[u8],
     v: usize,
 ) -> bool
-    ensures* { do
-      let congestion = weighed_congestion weighting [] 0 history.now others.now
-      ⌜ result ≡ node_sound congestion in_tree.now v ⌝ }
+    ensures { let congestion = weighed_congestion weighting [] 0 history.now others.now in
+        result ≡ node_sound congestion in_tree.now v }
 {
     let most = weighing::history_bound(weighting);
     if history.len() <= v {
@@ -54,9 +53,8 @@ fn bad_node(
     others: &[u16],
     in_tree: &[u8],
 ) -> usize
-    ensures* { do
-      let congestion = weighed_congestion weighting [] 0 history.now others.now
-      ⌜ result ≡ bad_node n congestion in_tree.now ⌝ }
+    ensures { let congestion = weighed_congestion weighting [] 0 history.now others.now in
+        result ≡ bad_node n congestion in_tree.now }
 {
     let mut v = 0;
     while v < n {
@@ -126,9 +124,8 @@ fn lists_sound(
     others: &[u16],
     in_tree: &[u8],
 ) -> bool
-    ensures* { do
-      let congestion = weighed_congestion weighting [] 0 history.now others.now
-      ⌜ result ≡ leb n (bad_node n congestion in_tree.now) ⌝ }
+    ensures { let congestion = weighed_congestion weighting [] 0 history.now others.now in
+        result ≡ leb n (bad_node n congestion in_tree.now) }
 {
     if !histories_sound(n, weighing::history_bound(weighting), history) {
         return false;
@@ -171,11 +168,10 @@ pub fn first_refusal(
     in_tree: &[u8],
 ) -> SearchAnswer
     requires { table ≡ 0 → n ≤ nodes_most }
-    ensures* { do
-      let marks = in_tree.now
-      let due : (List ℕ → List ℕ) = λ delays.
-          refusal_of table n (weighed_congestion weighting delays factor history.now others.now) marks entries
-      ⌜ ((delays : List ℕ) → search_refusal result ≡ due delays) ⌝ }
+    ensures { let marks = in_tree.now in
+        let due : (List ℕ → List ℕ) = λ delays.
+        refusal_of table n (weighed_congestion weighting delays factor history.now others.now) marks entries in
+        ((delays : List ℕ) → search_refusal result ≡ due delays) }
 {
     if 1 <= table {
         return SearchAnswer::BadTable(table);

@@ -131,9 +131,8 @@ fn edge_targets_sound(kind: &[u8], first_edge: &[u32], edge_target: &[u16]) -> b
 
 // The lowest of tables 1 to 4 that breaks its rule, 0 where none does.
 pub fn faulty_table(kind: &[u8], capacity: &[u8], first_edge: &[u32], edge_target: &[u16]) -> u32
-    ensures* { do
-      let block = block_of kind.now capacity.now first_edge.now edge_target.now
-      ⌜ result ≡ faulty_table block ⌝ }
+    ensures { let block = block_of kind.now capacity.now first_edge.now edge_target.now in
+        result ≡ faulty_table block }
 {
     let n = kind.len();
     if !kinds_sound(kind) {

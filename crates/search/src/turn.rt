@@ -124,14 +124,12 @@ fn least_price(
     sinks: &[u16],
     work: &[u64],
 ) -> u64
-    requires* { do
-      let c = weighed_congestion weighting delay.now factor history.now others.now
-      ⌜ ListsLong kind.now capacity.now c × (length kind.now ≤ length work.now) ⌝ }
-    ensures* { do
-      let c = weighed_congestion weighting delay.now factor history.now others.now
-      let price = clamped_price kind.now capacity.now c
-      let list = sinks.now
-      ⌜ LeastGoal (length kind.now) price list work.now (length list) result ⌝ }
+    requires { let c = weighed_congestion weighting delay.now factor history.now others.now in
+        ListsLong kind.now capacity.now c × (length kind.now ≤ length work.now) }
+    ensures { let c = weighed_congestion weighting delay.now factor history.now others.now in
+        let price = clamped_price kind.now capacity.now c in
+        let list = sinks.now in
+        LeastGoal (length kind.now) price list work.now (length list) result }
 {
     let n = kind.len();
     let mut least = ANY_PRICE_MOST;
@@ -187,9 +185,8 @@ fn path_length(in_tree: &[u8], work: &[u64], n: usize, sink: usize) -> usize
 fn write_path(in_tree: &[u8], work: &mut [u64], n: usize, sink: usize, count: usize)
     requires sink_lt_n { (sink < n) × Leads n (label_at work.old sink) in_tree.now work.old }
     requires count_value { (count ≡ length (path_in n in_tree.now work.old sink)) × (count ≤ n) }
-    ensures* { do
-      let path = path_in n in_tree.now work.old sink
-      ⌜ (take count work.new ≡ path) × SameBut 0 n work.old work.new ⌝ }
+    ensures { let path = path_in n in_tree.now work.old sink in
+        (take count work.new ≡ path) × SameBut 0 n work.old work.new }
 {
     let mut v = sink as u64;
     let mut i = count;
@@ -234,15 +231,13 @@ pub fn join(
     in_tree: &[u8],
     sinks: &[u16],
 ) -> PathAnswer
-    requires* { do
-      let b = block_of kind.now capacity.now first_edge.now edge_target.now
-      ⌜ Fitted b (weighed_congestion weighting delay.now factor history.now others.now) in_tree.now sinks.now work.old ⌝ }
-    ensures* { do
-      let b = block_of kind.now capacity.now first_edge.now edge_target.now
-      let c = weighed_congestion weighting delay.now factor history.now others.now
-      let price = clamped_price kind.now capacity.now c
-      let made = turn b price in_tree.now sinks.now
-      ⌜ path_reply_of result work.new ≡ turn_reply (length kind.now) work.old made ⌝ }
+    requires { let b = block_of kind.now capacity.now first_edge.now edge_target.now in
+        Fitted b (weighed_congestion weighting delay.now factor history.now others.now) in_tree.now sinks.now work.old }
+    ensures { let b = block_of kind.now capacity.now first_edge.now edge_target.now in
+        let c = weighed_congestion weighting delay.now factor history.now others.now in
+        let price = clamped_price kind.now capacity.now c in
+        let made = turn b price in_tree.now sinks.now in
+        path_reply_of result work.new ≡ turn_reply (length kind.now) work.old made }
 {
     let n = kind.len();
     let waits = mark_tree(in_tree, work, n);

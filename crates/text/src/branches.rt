@@ -49,9 +49,8 @@ fn put_steps(
     start: u64,
 ) -> u64
     requires { (from ≤ to) × (to ≤ length log.now) }
-    ensures* { do
-      let bytes = style_text style (steps net (part log.now from to))
-      ⌜ Filled start bytes buffer.old buffer.new result ⌝ }
+    ensures { let bytes = style_text style (steps net (part log.now from to)) in
+        Filled start bytes buffer.old buffer.new result }
 {
     let mut next = start;
     let mut k = from + 1;
@@ -65,9 +64,8 @@ fn put_steps(
 // The branches of a net's records in a sound log.
 fn put_records(style: Style, log: &[u32], net: u32, buffer: &mut [u8], start: u64) -> u64
     requires { AllSound log.now }
-    ensures* { do
-      let bytes = style_text style (record_branches (own_records net (decode log.now)))
-      ⌜ Filled start bytes buffer.old buffer.new result ⌝ }
+    ensures { let bytes = style_text style (record_branches (own_records net (decode log.now))) in
+        Filled start bytes buffer.old buffer.new result }
 {
     let mut next = start;
     let mut at = 0;
@@ -93,9 +91,8 @@ pub fn put_branches(
 ) -> u64
     requires nets_le_nets_most { (nets ≤ nets_most) × (nets_most ≤ length from.now) × (nets_most ≤ length to.now) }
     requires latest_places { LatestPlaces log.now from.now to.now }
-    ensures* { do
-      let bytes = style_text style (route_branches nets (decode log.now))
-      ⌜ Filled start bytes buffer.old buffer.new result ⌝ }
+    ensures { let bytes = style_text style (route_branches nets (decode log.now)) in
+        Filled start bytes buffer.old buffer.new result }
 {
     let mut next = start;
     let mut net = 0;

@@ -42,7 +42,7 @@ fn edge_line(
     last_to: usize,
 ) -> EdgeLine
     requires { nodes ≤ nodes_most }
-    ensures result_value { edge_at text.now result ≡ edge_line nodes count last_from last_to (drop at text.now) }
+    ensures value { edge_at text.now result ≡ edge_line nodes count last_from last_to (drop at text.now) }
     ensures edge_place { EdgePlace nodes at text.now result }
 {
     let LineFields::Fields {
@@ -99,10 +99,9 @@ pub fn read_edges(
 ) -> Lines
     requires from_in_bounds { (from ≤ length text.now) × (first_line ≤ from + 1) × (nodes ≤ nodes_most) × (edges ≤ edges_most) }
     requires nodes_in_bounds { (nodes + 1 ≤ length first_edge.old) × (edges ≤ length edge_target.old) }
-    ensures* edge_target_after { do
-      let lines = edge_lines nodes edges (edge_lists [] []) first_line (drop from text.now)
-      ⌜ edges_at text.now result (take (nodes + 1) first_edge.new) (take edges edge_target.new)
-          ≡ edge_tables nodes lines ⌝ }
+    ensures edge_target_after { let lines = edge_lines nodes edges (edge_lists [] []) first_line (drop from text.now) in
+        edges_at text.now result (take (nodes + 1) first_edge.new) (take edges edge_target.new)
+        ≡ edge_tables nodes lines }
     ensures lines_place { LinesPlace text.now result }
 {
     let mut at = from;

@@ -56,7 +56,7 @@ fn is_digit(b: u8) -> bool
 // A number that begins with this digit continues with at most five more.
 fn further_digits(text: &[u8], at: usize, first: u32) -> Field
     requires { (at ≤ length text.now) × (first < 10) }
-    ensures result_value { field_at text.now result ≡ digits_after 5 first (drop at text.now) }
+    ensures value { field_at text.now result ≡ digits_after 5 first (drop at text.now) }
     ensures field_place { FieldPlace at text.now result }
 {
     let mut value = first;
@@ -88,7 +88,7 @@ fn further_digits(text: &[u8], at: usize, first: u32) -> Field
 
 // A number of 1 to 6 digits without a leading zero.
 fn number(text: &[u8], at: usize) -> Field
-    ensures result_value { field_at text.now result ≡ field (drop at text.now) }
+    ensures value { field_at text.now result ≡ field (drop at text.now) }
     ensures field_place { FieldPlace at text.now result }
 {
     if text.len() <= at {
@@ -109,7 +109,7 @@ fn number(text: &[u8], at: usize) -> Field
 
 // A field after a comma.
 fn comma_field(text: &[u8], at: usize) -> Field
-    ensures result_value { field_at text.now result ≡ comma_field (drop at text.now) }
+    ensures value { field_at text.now result ≡ comma_field (drop at text.now) }
     ensures field_place { FieldPlace at text.now result }
 {
     if !byte_is(text, at, b',') {
@@ -209,9 +209,8 @@ fn reader_at<'a>(text: &'a [u8], at: usize) -> JobReader<'a>
 
 // The fields of the line that the reader has come to: it moves from field to field, and stops at a fault.
 fn read_fields<'a>(r: JobReader<'a>, count: usize) -> LineFields
-    ensures* fact { do
-      let bytes = drop r.entry.at r.entry.text.now
-      ⌜ (count ≤ 4 → fields_at count r.entry.text.now result ≡ fields count bytes) ⌝ }
+    ensures value { let bytes = drop r.entry.at r.entry.text.now in
+        (count ≤ 4 → fields_at count r.entry.text.now result ≡ fields count bytes) }
     ensures fields_place { FieldsPlace r.entry.at r.entry.text.now result }
 {
     let mut reader = r;
@@ -231,7 +230,7 @@ fn read_fields<'a>(r: JobReader<'a>, count: usize) -> LineFields
 
 // The fields of a line, which a reader carries.
 fn fields_from(text: &[u8], at: usize, count: usize) -> LineFields
-    ensures result_value { count ≤ 4 → fields_at count text.now result ≡ fields count (drop at text.now) }
+    ensures value { count ≤ 4 → fields_at count text.now result ≡ fields count (drop at text.now) }
     ensures fields_place { FieldsPlace at text.now result }
 {
     read_fields(reader_at(text, at), count)
@@ -240,7 +239,7 @@ fn fields_from(text: &[u8], at: usize, count: usize) -> LineFields
 // A line with this letter and this many fields, four at most.
 pub fn line_fields(text: &[u8], at: usize, letter: u8, count: usize) -> LineFields
     requires { count ≤ 4 }
-    ensures result_value { fields_at count text.now result ≡ line letter count (drop at text.now) }
+    ensures value { fields_at count text.now result ≡ line letter count (drop at text.now) }
     ensures fields_place { FieldsPlace (at + 1) text.now result }
 {
     if !byte_is(text, at, letter) {

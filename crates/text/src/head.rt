@@ -74,7 +74,7 @@ fn head_within(nodes: u32, edges: u32, nets: u32, limit: u32) -> bool
 
 // The F line, which stands at the beginning of the text.
 fn head_line(text: &[u8]) -> Head
-    ensures result_value { head_at text.now result ≡ head_line text.now }
+    ensures value { head_at text.now result ≡ head_line text.now }
     ensures head_place { HeadPlace text.now result }
 {
     let LineFields::Fields {
@@ -101,7 +101,7 @@ fn head_line(text: &[u8]) -> Head
 
 // The F line, and those that may follow it.
 pub fn read_head(text: &[u8]) -> HeadRead
-    ensures result_value { head_read_at text.now result ≡ head_part text.now }
+    ensures value { head_read_at text.now result ≡ head_part text.now }
     ensures head_read_place { HeadReadPlace text.now result }
 {
     match head_line(text) {

@@ -163,9 +163,8 @@ fn lowest_short(
     criticality: usize,
 ) -> u32
     requires { (nodes ≤ nodes_most) × (nets ≤ nets_most) }
-    ensures* { do
-      let first = lowest_short nodes edges nets sinks kind capacity first_edge edge_target source first_sink sink
-      ⌜ result ≡ lowest_of_nine first (short_times delays criticalities delay criticality) ⌝ }
+    ensures { let first = lowest_short nodes edges nets sinks kind capacity first_edge edge_target source first_sink sink in
+        result ≡ lowest_of_nine first (short_times delays criticalities delay criticality) }
 {
     let table = short_table(
         nodes,
@@ -223,15 +222,14 @@ fn store_job(
     requires room_for_all { RoomForAll kinds.now capacities.now first_edges.now edge_targets.now
         sources.now first_sinks.now sinks.now delays.now criticalities.now }
     requires counts_within { CountsWithin nodes edges nets × (count ≤ sinks_most) }
-    ensures* { do
-      let job = job_taken nodes edges nets count terms kinds.now capacities.now first_edges.now
-          edge_targets.now sources.now first_sinks.now sinks.now
-          delays.now criticalities.now
-      let tables = tables_of kind.old capacity.old first_edge.old edge_target.old
-          source.old first_sink.old sink.old delay.old criticality.old
-      let left = tables_of kind.new capacity.new first_edge.new edge_target.new
-          source.new first_sink.new sink.new delay.new criticality.new
-      ⌜ read_reply_of result left ≡ stored_reply job tables ⌝ }
+    ensures { let job = job_taken nodes edges nets count terms kinds.now capacities.now first_edges.now
+        edge_targets.now sources.now first_sinks.now sinks.now
+        delays.now criticalities.now in
+        let tables = tables_of kind.old capacity.old first_edge.old edge_target.old
+        source.old first_sink.old sink.old delay.old criticality.old in
+        let left = tables_of kind.new capacity.new first_edge.new edge_target.new
+        source.new first_sink.new sink.new delay.new criticality.new in
+        read_reply_of result left ≡ stored_reply job tables }
 {
     let delays_due = if_timed(terms.timed, nodes);
     let criticalities_due = if_timed(terms.timed, count);
@@ -326,12 +324,11 @@ pub fn read_job(
     delay: &mut [u16],
     criticality: &mut [u8],
 ) -> ReadAnswer
-    ensures* answers { do
-      let tables = tables_of kind.old capacity.old first_edge.old edge_target.old
-          source.old first_sink.old sink.old delay.old criticality.old
-      let left = tables_of kind.new capacity.new first_edge.new edge_target.new
-          source.new first_sink.new sink.new delay.new criticality.new
-      ⌜ read_reply_of result left ≡ read_reply text.now tables ⌝ }
+    ensures answers { let tables = tables_of kind.old capacity.old first_edge.old edge_target.old
+        source.old first_sink.old sink.old delay.old criticality.old in
+        let left = tables_of kind.new capacity.new first_edge.new edge_target.new
+        source.new first_sink.new sink.new delay.new criticality.new in
+        read_reply_of result left ≡ read_reply text.now tables }
 {
     let mut kinds = [0u8; NODES_MOST];
     let mut capacities = [0u8; NODES_MOST];

@@ -57,9 +57,8 @@ pub enum NetsRead {
 // The S line of net i.
 fn source_line(text: &[u8], at: usize, kind: &[u8], nodes: usize, nets: usize, i: usize) -> PinLine
     requires { (nodes ≤ nodes_most) × (nodes ≤ length kind.now) }
-    ensures* result_value { do
-      let read = source_line nodes nets i (drop at text.now)
-      ⌜ pin_at i text.now result ≡ of_kind source_kind kind.now read ⌝ }
+    ensures value { let read = source_line nodes nets i (drop at text.now) in
+        pin_at i text.now result ≡ of_kind source_kind kind.now read }
     ensures pin_place { PinPlace nodes at text.now result }
 {
     let LineFields::Fields {
@@ -165,10 +164,9 @@ fn add_source(
         × (c.sinks ≤ sinks_most) }
     requires nets_lt_nets { (c.nets < nets) × (nets ≤ length source.old) × (nets ≤ length first_sink.old)
         × (nodes ≤ length seen.old) × (nodes ≤ length kind.now) }
-    ensures* { do
-      let read = of_kind source_kind kind.now (source_line nodes nets c.nets (drop c.at text.now))
-      ⌜ SourceAdded nodes nets text.now c result source.old first_sink.old seen.old
-          source.new first_sink.new seen.new read ⌝ }
+    ensures { let read = of_kind source_kind kind.now (source_line nodes nets c.nets (drop c.at text.now)) in
+        SourceAdded nodes nets text.now c result source.old first_sink.old seen.old
+        source.new first_sink.new seen.new read }
 {
     let at = c.at;
     let net = c.nets;
@@ -261,10 +259,9 @@ fn net_line(
 ) -> NetStep
     requires { NetKept nodes nets text.now c source.old first_sink.old sink.old criticality.old seen.old
         × (c.at < length text.now) × (nodes ≤ length kind.now) }
-    ensures* criticality_after { do
-      let before = nets_at c source.old first_sink.old sink.old criticality.old
-      ⌜ net_line_at text.now result source.new first_sink.new sink.new criticality.new
-          ≡ net_line timed kind.now nodes nets before (drop c.at text.now) ⌝ }
+    ensures criticality_after { let before = nets_at c source.old first_sink.old sink.old criticality.old in
+        net_line_at text.now result source.new first_sink.new sink.new criticality.new
+        ≡ net_line timed kind.now nodes nets before (drop c.at text.now) }
     ensures kept_after { KeptAfter nodes nets text.now c result
         source.new first_sink.new sink.new criticality.new seen.new }
 {
@@ -315,10 +312,9 @@ pub fn read_nets(
         × (nodes ≤ length kind.now) }
     requires nets_in_bounds { (nets ≤ length source.old) × (nets + 1 ≤ length first_sink.old) × (sinks_most ≤ length sink.old)
         × (sinks_most ≤ length criticality.old) }
-    ensures* criticality_after { do
-      let bytes = drop from text.now
-      ⌜ nets_read_at nets result source.new first_sink.new sink.new criticality.new
-          ≡ net_lines (length bytes) timed kind.now nodes nets (net_lists [] [] [] []) first_line bytes ⌝ }
+    ensures criticality_after { let bytes = drop from text.now in
+        nets_read_at nets result source.new first_sink.new sink.new criticality.new
+        ≡ net_lines (length bytes) timed kind.now nodes nets (net_lists [] [] [] []) first_line bytes }
     ensures nets_end { NetsEnd nets result first_sink.new }
 {
     let mut seen = [0u16; NODES_MOST];

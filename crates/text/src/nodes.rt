@@ -23,9 +23,8 @@ pub enum NodeLine {
 // The line of node v, of this many nodes. An untimed one has no delay, which counts as 0.
 fn node_line(text: &[u8], at: usize, nodes: usize, v: usize, timed: bool) -> NodeLine
     requires { nodes ≤ nodes_most }
-    ensures* result_value { do
-      let read = node_line timed nodes v (drop at text.now)
-      ⌜ node_at v text.now result ≡ taking four_of read ⌝ }
+    ensures value { let read = node_line timed nodes v (drop at text.now) in
+        node_at v text.now result ≡ taking four_of read }
     ensures node_place { NodePlace at text.now result }
 {
     let count = fields::one_of_two(timed, 4, 3) as usize;
@@ -79,10 +78,9 @@ pub fn read_nodes(
 ) -> Lines
     requires from_in_bounds { (from ≤ length text.now) × (first_line ≤ from + 1) × (nodes ≤ nodes_most) }
     requires nodes_in_bounds { (nodes ≤ length kind.old) × (nodes ≤ length capacity.old) × (nodes ≤ length delay.old) }
-    ensures* delay_after { do
-      let lines = node_lines timed nodes nodes (node_lists [] [] []) first_line (drop from text.now)
-      ⌜ nodes_at text.now result
-          (take nodes kind.new) (take nodes capacity.new) (take nodes delay.new) ≡ lines ⌝ }
+    ensures delay_after { let lines = node_lines timed nodes nodes (node_lists [] [] []) first_line (drop from text.now) in
+        nodes_at text.now result
+        (take nodes kind.new) (take nodes capacity.new) (take nodes delay.new) ≡ lines }
     ensures lines_place { LinesPlace text.now result }
 {
     let mut at = from;

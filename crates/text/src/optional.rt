@@ -43,9 +43,8 @@ pub struct OptionalLine {
 // The line of this letter and this many fields, four at most.
 pub fn optional_line(text: &[u8], at: usize, letter: u8, count: usize) -> OptionalLine
     requires { count ≤ 4 }
-    ensures* { do
-      let values = take count (result.first ∷ result.second ∷ result.third ∷ result.fourth ∷ [])
-      ⌜ Shaped letter (line letter count) at text.now values result.shape ⌝ }
+    ensures { let values = take count (result.first ∷ result.second ∷ result.third ∷ result.fourth ∷ []) in
+        Shaped letter (line letter count) at text.now values result.shape }
 {
     if !fields::byte_is(text, at, letter) {
         return OptionalLine {
@@ -122,7 +121,7 @@ pub fn terms_after(
 // The terms with those of the V and the W line where these stand, else as they are.
 fn read_further(text: &[u8], at: usize, line: usize, terms: Terms) -> TermsRead
     requires { (at ≤ length text.now) × (line ≤ at + 1) }
-    ensures result_value { terms_at text.now result ≡ and_then (rule_part terms line (drop at text.now)) timed_part }
+    ensures value { terms_at text.now result ≡ and_then (rule_part terms line (drop at text.now)) timed_part }
     ensures terms_place { TermsPlace text.now result }
 {
     match rule::read_rule(text, at, line, terms) {
@@ -144,7 +143,7 @@ fn read_further(text: &[u8], at: usize, line: usize, terms: Terms) -> TermsRead
 // The terms of this limit, with those of the P, the V and the W line where these stand, else the plain ones.
 pub fn read_terms(text: &[u8], at: usize, line: usize, limit: u32) -> TermsRead
     requires { (at ≤ length text.now) × (line ≤ at + 1) }
-    ensures result_value { terms_at text.now result ≡ terms_part limit line (drop at text.now) }
+    ensures value { terms_at text.now result ≡ terms_part limit line (drop at text.now) }
     ensures terms_place { TermsPlace text.now result }
 {
     match tuning::read_tuning(text, at, line, job::plain_terms(limit)) {

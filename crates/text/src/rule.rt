@@ -19,9 +19,8 @@ pub struct RuleLine {
 
 // A V line that does not have one number: it has two, and the first is not 1.
 fn longer_line(text: &[u8], at: usize) -> RuleLine
-    requires* { do
-      let bytes = drop at text.now
-      ⌜ (begins letter_v bytes ≡ true) × (line letter_v 1 bytes ≡ malformed) ⌝ }
+    requires { let bytes = drop at text.now in
+        (begins letter_v bytes ≡ true) × (line letter_v 1 bytes ≡ malformed) }
     ensures { Shaped letter_v rule_fields at text.now (result.rule ∷ result.until ∷ []) result.shape }
 {
     let LineFields::Fields {
@@ -77,7 +76,7 @@ fn rule_line(text: &[u8], at: usize) -> RuleLine
 // The terms with the rule of the V line where there is one, else as they are.
 pub fn read_rule(text: &[u8], at: usize, line: usize, terms: Terms) -> TermsRead
     requires { (at ≤ length text.now) × (line ≤ at + 1) }
-    ensures result_value { terms_at text.now result ≡ rule_part terms line (drop at text.now) }
+    ensures value { terms_at text.now result ≡ rule_part terms line (drop at text.now) }
     ensures terms_place { TermsPlace text.now result }
 {
     let found = rule_line(text, at);

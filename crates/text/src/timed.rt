@@ -10,7 +10,7 @@ use job::Terms;
 // The terms of a timed job where there is a W line, else as they are.
 pub fn read_times(text: &[u8], at: usize, line: usize, terms: Terms) -> TermsRead
     requires { (at ≤ length text.now) × (line ≤ at + 1) }
-    ensures result_value { terms_at text.now result ≡ timed_part terms line (drop at text.now) }
+    ensures value { terms_at text.now result ≡ timed_part terms line (drop at text.now) }
     ensures terms_place { TermsPlace text.now result }
 {
     let found = optional::optional_line(text, at, b'W', 0);

@@ -10,7 +10,7 @@ use job::{Terms, Tuning};
 // The terms with the tuning of the P line where there is one, else as they are.
 pub fn read_tuning(text: &[u8], at: usize, line: usize, terms: Terms) -> TermsRead
     requires { (at ≤ length text.now) × (line ≤ at + 1) }
-    ensures result_value { terms_at text.now result ≡ tuning_part terms line (drop at text.now) }
+    ensures value { terms_at text.now result ≡ tuning_part terms line (drop at text.now) }
     ensures terms_place { TermsPlace text.now result }
 {
     let found = optional::optional_line(text, at, b'P', 4);

@@ -46,9 +46,8 @@ pub fn test_counts(
     uses: &[u64; KINDS],
     logs: u64,
 ) -> CountsTest
-    ensures* { do
-      let block = block_of kind.now capacity.now first_edge.now edge_target.now
-      ⌜ test_refusal result ≡ counts_refusal block (use_counts_of uses.now logs) ⌝ }
+    ensures { let block = block_of kind.now capacity.now first_edge.now edge_target.now in
+        test_refusal result ≡ counts_refusal block (use_counts_of uses.now logs) }
 {
     let table = job::faulty_block(kind, capacity, first_edge, edge_target);
     if 1 <= table {

@@ -81,9 +81,8 @@ pub fn add_log(
     logs: u64,
     log: &[u32],
 ) -> AddAnswer
-    ensures* answers { do
-      let block = block_of kind.now capacity.now first_edge.now edge_target.now
-      ⌜ add_reply_of logs result uses.new ≡ add_reply block (use_counts_of uses.old logs) log.now ⌝ }
+    ensures answers { let block = block_of kind.now capacity.now first_edge.now edge_target.now in
+        add_reply_of logs result uses.new ≡ add_reply block (use_counts_of uses.old logs) log.now }
 {
     match counts::test_counts(kind, capacity, first_edge, edge_target, uses, logs) {
         CountsTest::Fine => add_tested(kind, uses, logs, log),
@@ -102,9 +101,8 @@ pub fn write_uses(
     logs: u64,
     buffer: &mut [u8],
 ) -> PrintAnswer
-    ensures* answers { do
-      let block = block_of kind.now capacity.now first_edge.now edge_target.now
-      ⌜ print_reply_of result buffer.new ≡ print_reply block (use_counts_of uses.now logs) buffer.old ⌝ }
+    ensures answers { let block = block_of kind.now capacity.now first_edge.now edge_target.now in
+        print_reply_of result buffer.new ≡ print_reply block (use_counts_of uses.now logs) buffer.old }
 {
     match counts::test_counts(kind, capacity, first_edge, edge_target, uses, logs) {
         CountsTest::Fine => lines::put_uses(kind, capacity, uses, logs, buffer),

@@ -19,9 +19,8 @@ fn put_lines(uses: &[u64], totals: &[u64], logs: u64, buffer: &mut [u8]) -> usiz
     requires uses_len { (length uses.now ≡ kind_count) × (length totals.now ≡ kind_count) }
     requires by_index { (k : ℕ) → k < kind_count → get_or totals.now k 0 * logs < 2 ^ 64 }
     requires kind_count_in_bounds { length (concat_from (total_line uses.now totals.now logs) 0 kind_count) ≤ length buffer.old }
-    ensures* { do
-      let text = concat_from (total_line uses.now totals.now logs) 0 kind_count
-      ⌜ Put 0 text buffer.old buffer.new result ⌝ }
+    ensures { let text = concat_from (total_line uses.now totals.now logs) 0 kind_count in
+        Put 0 text buffer.old buffer.new result }
 {
     let mut at = 0;
     let mut k = 0;
@@ -42,9 +41,8 @@ pub fn put_uses(
     buffer: &mut [u8],
 ) -> PrintAnswer
     requires { (kinds_sound kind.now ≡ true) × (capacities_sound (length kind.now) capacity.now ≡ true) × (logs ≤ logs_most) }
-    ensures* { do
-      let text = uses_text (block_of kind.now capacity.now [] []) (use_counts_of uses.now logs)
-      ⌜ print_reply_of result buffer.new ≡ text_reply text buffer.old ⌝ }
+    ensures { let text = uses_text (block_of kind.now capacity.now [] []) (use_counts_of uses.now logs) in
+        print_reply_of result buffer.new ≡ text_reply text buffer.old }
 {
     let mut wide = [0u16; NODES_MOST];
     tally::widen(capacity, &mut wide);
