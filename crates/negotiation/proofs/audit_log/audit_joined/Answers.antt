@@ -1,0 +1,54 @@
+-- `negotiation::audit_log::audit_joined` meets its contract: refusal 7 by its law, the log by the contract of the audit.
+-- Assumes nothing.
+use mathlib.Core.Path.{◌≡◌, sym}
+use native.Mathlib.Nat.{le_of_eq, le_trans}
+use native.Mathlib.Omega.{arith}
+use Rattle.search.proofs.BlockLaws.{kinds-few}
+use Rattle.job.specs.Job.{Job, job_of}
+use Rattle.negotiation.specs.Steps.{missing, reach_numbers}
+use Rattle.negotiation.proofs.audit_log.AuditLogLaws.{unreachable_audited, run_audited}
+use Rattle.negotiation.proofs.audit_log.audit_joined.Goals.{After-unreachable, Start}
+use Rattle.negotiation.proofs.audit_log.audit_joined.Goals as goal
+
+abbrev entry : After-unreachable → Start
+entry c = c.before.before.before.before.before.before.before.before.before.before.before.before.before
+
+-- the job that is lent
+abbrev job : Start → Job
+job e =
+    job_of e.args.kind.now e.args.capacity.now e.args.first_edge.now e.args.edge_target.now e.args.source.now
+    e.args.first_sink.now e.args.sink.now e.args.delay.now e.args.criticality.now e.args.terms
+
+test : (u : After-unreachable) → reach_numbers u.unreachable.result ≡ missing (job (entry u))
+test u =
+    u.unreachable.ensures.first_missing u.args.capacity.now u.args.delay.now u.args.criticality.now u.args.terms u.requires.0
+
+pub unreachable-requires : goal.unreachable-requires
+unreachable-requires c = record {
+  routable_with = record {
+    capacities = c.args.capacity.now;
+    delays = c.args.delay.now;
+    criticalities = c.args.criticality.now;
+    terms = c.args.terms;
+    routable = c.requires.0;
+  };
+  kind_in_bounds = c.requires.1;
+}
+
+pub overflow_mul-kind : goal.overflow_mul-kind
+overflow_mul-kind c =
+    let few = kinds-few c.args.kind.now c.requires.0.block-sound.kinds_sound_lem in
+    omega arith
+
+pub audit_lists-requires : goal.audit_lists-requires
+audit_lists-requires c =
+    (c.requires.0, le_trans c.requires.1 (le_of_eq (sym c.unreachable.ensures.same_from.long)))
+
+pub returns-in-Missing : goal.returns-in-Missing
+returns-in-Missing c =
+    unreachable_audited (job (goal.at.returns-in-Missing c).Start) c.args.work.now _ c.unreachable.ensures.same_from _ (test (goal.at.returns-in-Missing c).After-unreachable) c.args.used c.args.log.now _ _ _ _ c.in-Missing.is c.refused.ensures
+    c.clear.ensures
+
+pub returns-in-All : goal.returns-in-All
+returns-in-All c =
+    run_audited (job (goal.at.returns-in-All c).Start) c.args.work.now _ c.unreachable.ensures.same_from _ (test (goal.at.returns-in-All c).After-unreachable) c.args.used c.args.log.now _ c.in-All.is c.audit_lists.ensures

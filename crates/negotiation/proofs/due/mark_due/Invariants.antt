@@ -1,0 +1,15 @@
+-- `negotiation::due::mark_due` meets its contract: after the turns up to a net the marks below it are those that they shall be, the others stand.
+-- Assumes nothing.
+use mathlib.Core.List.{◌++◌}
+use mathlib.Core.Path.{◌≡◌}
+use Prim.Native.Nat.{◌+◌, ◌-◌, ◌≤◌}
+use lib.ListN.{length, drop}
+use Rattle.price.specs.Lists.{up_to}
+use Rattle.negotiation.proofs.due.mark_due.Given as goal
+
+abbrev pub invariant-loop-net : goal.invariant-loop-net
+invariant-loop-net l =
+    (l.net ≤ length l.initial.due) × (length l.due ≡ length l.initial.due) × (l.due ≡ up_to (mark l.all l.capacity l.first_sink l.log l.tree_from l.tree_to l.users) l.net ++ drop l.net l.initial.due)
+
+abbrev pub decreases-loop-net : goal.decreases-loop-net
+decreases-loop-net l = length l.initial.due - l.net

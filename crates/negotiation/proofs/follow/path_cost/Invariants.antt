@@ -1,0 +1,14 @@
+-- `negotiation::follow::path_cost` meets its contract. The invariant: the pass over the words that are left gives what the whole pass does.
+-- Assumes nothing.
+use Prim.Native.Nat.{◌-◌}
+use Rattle.search.specs.Block.{block_of}
+use Rattle.search.specs.Turn.{weighed_congestion}
+use Rattle.negotiation.proofs.follow.PassLoopLaws.{Passing}
+use Rattle.negotiation.proofs.follow.path_cost.Given as goal
+
+abbrev pub invariant-loop-k : goal.invariant-loop-k
+invariant-loop-k l =
+    Passing (block_of l.kind l.capacity l.first_edge l.edge_target) (weighed_congestion l.weighting l.delay l.factor l.history l.users) l.goals l.initial.in_tree l.log l.from l.to l.in_tree l.u l.cost l.k
+
+abbrev pub decreases-loop-k : goal.decreases-loop-k
+decreases-loop-k l = l.to - l.k

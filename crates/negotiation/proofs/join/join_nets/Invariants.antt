@@ -1,0 +1,12 @@
+-- `join::join_nets` meets its contract. The loop's invariant: the places of the nets passed stand first, and where each net's begin.
+-- Assumes nothing.
+use Prim.Native.Nat.{◌-◌}
+use lib.ListN.{length}
+use Rattle.negotiation.proofs.JoiningLaws.{Joining}
+use Rattle.negotiation.proofs.join.join_nets.Given as goal
+
+abbrev pub invariant-loop-net : goal.invariant-loop-net
+invariant-loop-net l = Joining l.source l.first_sink l.sink l.initial.firsts l.initial.places l.firsts l.places l.seen l.count l.net
+
+abbrev pub decreases-loop-net : goal.decreases-loop-net
+decreases-loop-net l = length l.source - l.net

@@ -1,0 +1,59 @@
+-- `negotiation::refusal_of` meets its contract: the numbers of its tests, one by one.
+-- Assumes nothing.
+use mathlib.Core.Bool.{false}
+use mathlib.Core.Path.{◌≡◌, sym, ◌∙◌}
+use Prim.Native.Nat.{◌≤◌}
+use native.Mathlib.Omega.{arith}
+use lib.ListN.{length}
+use Rattle.search.proofs.BlockLaws.{kinds-few}
+use Rattle.job.specs.Job.{Job, job_of, nodes}
+use Rattle.job.specs.Tables.{faulty_job, exceeds}
+use Rattle.job.proofs.JobLaws.{sound-job}
+use Rattle.negotiation.proofs.RefusalLaws.{table_numbers, large_numbers, work-numbers, no_numbers}
+use Rattle.negotiation.proofs.refusal_of.Goals.{Else-exceeds, Else-table-ge1, Start}
+use Rattle.negotiation.proofs.refusal_of.Goals as goal
+
+abbrev entry : Else-table-ge1 → Start
+entry c = c.before.before.before.before.before.before.before.before.before.before.before
+
+abbrev entry_2 : Else-exceeds → Start
+entry_2 c = c.before.before.before.before.before.before.before.before.before.before.before.before.before
+
+-- the job that is lent
+abbrev job : Start → Job
+job e =
+    job_of e.args.kind.now e.args.capacity.now e.args.first_edge.now e.args.edge_target.now e.args.source.now
+    e.args.first_sink.now e.args.sink.now e.args.delay.now e.args.criticality.now e.args.terms
+
+-- no table is faulty
+module _ (c : Else-table-ge1) where
+  few-nodes : length c.args.kind.now ≤ 4096
+  few-nodes =
+      let e = c.faulty_job-table.ensures in
+      let none : faulty_job (job (entry c)) ≡ 0 = omega (arith, c.if-table-ge1.false) in
+      kinds-few _ (sound-job (job (entry c)) none).block-sound.kinds_sound_lem
+
+-- nor is the job too large
+fits : (c : Else-exceeds) → exceeds (nodes (job (entry_2 c))) c.args.terms ≡ false
+fits c = sym c.exceeds.ensures ∙ c.if-exceeds.false
+
+pub returns-then-table-ge1 : goal.returns-then-table-ge1
+returns-then-table-ge1 c = table_numbers (job (goal.at.returns-then-table-ge1 c).Start) _ _ c.faulty_job-table.ensures c.if-table-ge1.true
+
+pub overflow_cast-result : goal.overflow_cast-result
+overflow_cast-result c = let f = few-nodes (goal.at.overflow_cast-result c).Else-table-ge1 in omega arith
+
+pub returns-then-exceeds : goal.returns-then-exceeds
+returns-then-exceeds c =
+    large_numbers (job (goal.at.returns-then-exceeds c).Start) _ _ c.faulty_job-table.ensures c.if-table-ge1.false (sym c.exceeds.ensures ∙ c.if-exceeds.true)
+
+pub overflow_mul-needed : goal.overflow_mul-needed
+overflow_mul-needed c = let f = few-nodes (goal.at.overflow_mul-needed c).Else-table-ge1 in omega arith
+
+pub returns-then-entries-needed : goal.returns-then-entries-needed
+returns-then-entries-needed c =
+    work-numbers (job (goal.at.returns-then-entries-needed c).Start) _ _ c.faulty_job-table.ensures c.if-table-ge1.false (fits (goal.at.returns-then-entries-needed c).Else-exceeds) c.if-entries-needed.true
+
+pub returns : goal.returns
+returns c =
+    no_numbers (job (goal.at.returns c).Start) _ _ c.faulty_job-table.ensures c.if-table-ge1.false (fits (goal.at.returns c).Else-exceeds) c.if-entries-needed.false

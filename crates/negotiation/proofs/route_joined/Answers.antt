@@ -1,0 +1,64 @@
+-- `negotiation::route_joined` meets its contract: refusal 7 by its law, the run by the negotiation's contract.
+-- Assumes nothing.
+use mathlib.Core.Path.{◌≡◌, sym}
+use native.Mathlib.Nat.{le_of_eq, le_trans}
+use native.Mathlib.Omega.{arith}
+use Rattle.search.proofs.BlockLaws.{kinds-few}
+use Rattle.job.specs.Job.{Job, job_of}
+use Rattle.negotiation.specs.Steps.{missing, reach_numbers}
+use Rattle.negotiation.proofs.RefusalLaws.{refused-counts}
+use Rattle.negotiation.proofs.RouteLaws.{unreachable_refused, none-missing, run_answered}
+use Rattle.negotiation.proofs.route_joined.Goals.{After-unreachable, Start}
+use Rattle.negotiation.proofs.route_joined.Goals as goal
+
+abbrev entry : After-unreachable → Start
+entry c = c.before.before.before.before.before.before.before.before.before.before.before.before.before
+
+-- the job that is lent
+abbrev job : Start → Job
+job e =
+    job_of e.args.kind.now e.args.capacity.now e.args.first_edge.now e.args.edge_target.now
+    e.args.source.now e.args.first_sink.now e.args.sink.now e.args.delay.now e.args.criticality.now e.args.terms
+
+test : (u : After-unreachable) → reach_numbers u.unreachable.result ≡ missing (job (entry u))
+test u =
+    u.unreachable.ensures.first_missing u.args.capacity.now u.args.delay.now u.args.criticality.now u.args.terms u.requires.0
+
+pub unreachable-requires : goal.unreachable-requires
+unreachable-requires c = record {
+  routable_with = record {
+    capacities = c.args.capacity.now;
+    delays = c.args.delay.now;
+    criticalities = c.args.criticality.now;
+    terms = c.args.terms;
+    routable = c.requires.0;
+  };
+  kind_in_bounds = c.requires.1;
+}
+
+pub overflow_mul-kind : goal.overflow_mul-kind
+overflow_mul-kind c =
+    let few = kinds-few c.args.kind.now c.requires.0.block-sound.kinds_sound_lem in
+    omega arith
+
+pub negotiate-requires : goal.negotiate-requires
+negotiate-requires c = (
+  c.requires.0,
+  none-missing (job (goal.at.negotiate-requires c).Start) _ (test (goal.at.negotiate-requires c).After-unreachable) c.in-All.is,
+  le_trans c.requires.1 (le_of_eq (sym c.unreachable.ensures.same_from.long)),
+)
+
+pub returns-in-Missing : goal.returns-in-Missing
+returns-in-Missing c = record {
+  answers = unreachable_refused c.args.start (job (goal.at.returns-in-Missing c).Start) _ _ _ (test (goal.at.returns-in-Missing c).After-unreachable) _ c.unreachable.ensures.same_from
+      _ _ _ _ c.in-Missing.is c.refused.ensures c.clear.ensures;
+  expanded = refused-counts c.args.aimed (job (goal.at.returns-in-Missing c).Start) _ c.refused.result c.args.log.now c.refused.ensures;
+}
+
+pub returns-in-All : goal.returns-in-All
+returns-in-All c = record {
+  answers = run_answered c.args.start (job (goal.at.returns-in-All c).Start) _ _ _ (test (goal.at.returns-in-All c).After-unreachable) _ c.unreachable.ensures.same_from
+      c.negotiate.result c.negotiate.new.work c.negotiate.new.log
+      c.in-All.is c.negotiate.ensures.answers;
+  expanded = c.negotiate.ensures.expanded;
+}

@@ -1,0 +1,76 @@
+-- `negotiation::routed_from` meets its contract: refusals 5, 15 and 6 by their tests, the rest by the answer of the joined nets.
+-- Assumes nothing.
+use mathlib.Core.List.{[], ◌∷◌}
+use mathlib.Core.Path.{◌≡◌, refl, sym, subst}
+use Prim.Native.Nat.{◌+◌}
+use native.Mathlib.Omega.{arith}
+use lib.ListN.{length, take}
+use lib.Seq.{length-take-le}
+use types.Run.{miss}
+use Rattle.job.specs.Job.{Job, job_of}
+use Rattle.job.specs.Join.{joined}
+use Rattle.negotiation.specs.Routable.{Routable}
+use Rattle.negotiation.proofs.JoiningLaws.{joined-job}
+use Rattle.negotiation.proofs.RefusalLaws.{TestsPass, accepted_passes, refused-counts}
+use Rattle.negotiation.proofs.RouteLaws.{given_joinable, given_critical, given_routable, job-refused, joined-answered, joined-counts}
+use Rattle.negotiation.proofs.routed_from.Goals.{After-joined_tables-count, In-Accepted, Start}
+use Rattle.negotiation.proofs.routed_from.Goals as goal
+
+abbrev entry : In-Accepted → Start
+entry c = c.before.before.before.before.before.before.before.before.before.before.before.before.before.before
+
+abbrev entry_2 : After-joined_tables-count → Start
+entry_2 c = c.before.before.before.before.before.before.before.before.before.before.before.before.before.before.before.before.before.before
+
+-- the job that is lent
+abbrev job : Start → Job
+job e =
+    job_of e.args.kind.now e.args.capacity.now e.args.first_edge.now e.args.edge_target.now e.args.source.now
+    e.args.first_sink.now e.args.sink.now e.args.delay.now e.args.criticality.now e.args.terms
+
+-- they pass
+module _ (c : In-Accepted) where
+  abbrev listed : Job
+  listed = job (entry c)
+
+  passes : TestsPass listed (length c.args.work.now)
+  passes = accepted_passes listed _ _ c.refusal_of-refusal.ensures c.in-Accepted.is
+
+-- the nets are joined
+module _ (c : After-joined_tables-count) where
+  -- the job of the joined tables
+  abbrev made : Job
+  made =
+      job_of c.args.kind.now c.args.capacity.now c.args.first_edge.now c.args.edge_target.now c.args.source.now
+      (take (length c.args.source.now + 1) c.joined_tables-count.new.firsts) (take c.joined_tables-count.result c.joined_tables-count.new.sinks)
+      c.args.delay.now (take c.joined_tables-count.result c.joined_tables-count.new.criticalities) c.args.terms
+
+  made-is : made ≡ joined (job (entry_2 c))
+  made-is =
+      joined-job c.args.terms c.joined_tables-count.ensures c.args.kind.now c.args.capacity.now c.args.first_edge.now
+      c.args.edge_target.now c.args.delay.now
+
+pub joined_tables-count-requires : goal.joined_tables-count-requires
+joined_tables-count-requires c =
+    let tables = given_joinable (listed (goal.at.joined_tables-count-requires c).In-Accepted) (passes (goal.at.joined_tables-count-requires c).In-Accepted) in
+    let few = (given_routable (listed (goal.at.joined_tables-count-requires c).In-Accepted) (passes (goal.at.joined_tables-count-requires c).In-Accepted)).nets-few in
+    (tables, ((omega arith, tables.sinks-few), (given_critical (listed (goal.at.joined_tables-count-requires c).In-Accepted) (passes (goal.at.joined_tables-count-requires c).In-Accepted) _ refl, tables.sinks-few)))
+
+pub slice_bounds-route_joined-end : goal.slice_bounds-route_joined-end
+slice_bounds-route_joined-end c = sym (length-take-le _ _ c.joined_tables-count.ensures.ends-within)
+
+pub slice_bounds-route_joined-end-2 : goal.slice_bounds-route_joined-end-2
+slice_bounds-route_joined-end-2 c = sym (length-take-le _ _ c.joined_tables-count.ensures.within)
+
+pub slice_bounds-route_joined-end-3 : goal.slice_bounds-route_joined-end-3
+slice_bounds-route_joined-end-3 c = sym (length-take-le _ _ c.joined_tables-count.ensures.criticalities-within)
+
+pub route_joined-requires : goal.route_joined-requires
+route_joined-requires c =
+    (subst Routable (sym (made-is (goal.at.route_joined-requires c).After-joined_tables-count)) (given_routable (job (goal.at.route_joined-requires c).Start) (passes (goal.at.route_joined-requires c).In-Accepted)), (passes (goal.at.route_joined-requires c).In-Accepted).enough)
+
+pub returns-in_default : goal.returns-in_default
+returns-in_default c = record { answers = job-refused c.args.start (job (goal.at.returns-in_default c).Start) _ _ _ c.refusal_of-refusal.ensures (λ q. miss (1 ∷ 2 ∷ 3 ∷ 4 ∷ 5 ∷ 6 ∷ 7 ∷ 8 ∷ []) 0 tt (rw q (goal.at.returns-in_default c).After-refusal_of-refusal c.in-Accepted.keys2)) _ c.refused.ensures; expanded = refused-counts c.args.aimed (joined (job (goal.at.returns-in_default c).Start)) _ c.refused.result _ c.refused.ensures }
+
+pub returns : goal.returns
+returns c = record { answers = joined-answered c.args.start (job (goal.at.returns c).Start) _ _ _ c.refusal_of-refusal.ensures c.in-Accepted.is (made (goal.at.returns c).After-joined_tables-count) (made-is (goal.at.returns c).After-joined_tables-count) _ c.route_joined.ensures.answers; expanded = joined-counts (made (goal.at.returns c).After-joined_tables-count) (made-is (goal.at.returns c).After-joined_tables-count) _ _ _ _ c.route_joined.ensures.expanded }

@@ -1,0 +1,168 @@
+-- `negotiation::take_up::follow_net` meets its contract: from any net that opens so, the turns made so far follow and so many more may be made, and the place is
+-- that of the first sink that the tree lacks (`TakeTurnLaws`). What is safe rests on the one that is asked for. A net without turns leaves all as it is.
+-- Assumes nothing.
+use mathlib.Core.List.{List, [], ◌∷◌}
+use mathlib.Core.Path.{◌≡◌, refl, ◌∙◌, ap}
+use Prim.Native.Nat.{ℕ, ◌-◌, ◌*◌, ◌≤◌, ◌<◌, ◌^◌, zero-le}
+use native.Mathlib.Nat.{add-zero}
+use native.Mathlib.Omega.{arith}
+use lib.ListN.{length, get_or}
+use types.Run.{miss}
+use Rattle.negotiation.specs.Steps.{SameFrom}
+use Rattle.negotiation.specs.TakeSteps.{SomeNet}
+use Rattle.negotiation.specs.declared.tariff.Tariff.{Tariff}
+use Rattle.negotiation.proofs.take_up.TakeTurnLaws.{some_of, missing-more, follow_start, part-order, part-within, part_small, part-below, follow_ready, follow_some, follow_out, follow_stopped, follow_more, follow_room, follow_on}
+use Rattle.negotiation.proofs.KeepTurn.{same_twice}
+use Rattle.negotiation.proofs.take_up.follow_net.Goals.{After-follow_tried-tried, Else-turns-eq0}
+use Rattle.negotiation.proofs.take_up.follow_net.Goals as goal
+
+module _ (c : Else-turns-eq0) where
+  -- the one that is asked for, and its work memory
+  asked :
+      SomeNet c.args.kind.now c.args.capacity.now c.args.first_edge.now c.args.edge_target.now c.args.sink.now
+      c.args.delay.now c.args.criticality.now c.args.timed c.args.from c.args.to c.args.net c.args.turns
+      c.args.begun c.args.history.now c.args.users.now c.args.in_tree.now c.args.log.now
+  asked = (c.requires (some_of c.args.turns c.if-turns-eq0.false)).0
+
+  enough : 8 * length c.args.kind.now ≤ length c.args.work.now
+  enough = (c.requires (some_of c.args.turns c.if-turns-eq0.false)).1
+
+  -- a word of the log is below 2^32
+  small : (k : ℕ) → get_or c.args.log.now k 0 < 2 ^ 32
+  small k = omega (arith, c.type_inv.log k)
+
+module _ (c : After-follow_tried-tried) where
+  abbrev marks : List ℕ
+  marks = c.follow_tried-tried.new.in_tree
+
+  abbrev work : List ℕ
+  work = c.follow_tried-tried.new.work
+
+  marks_long : length marks ≡ length c.args.in_tree.now
+  marks_long = c.follow_tried-tried.auto.in_tree ∙ c.loop-place.invariant.2
+
+  work-same : SameFrom (8 * length c.args.kind.now) c.args.work.now work
+  work-same = same_twice c.loop-place.invariant.4 c.follow_tried-tried.ensures.stored.1
+
+pub returns-then-turns-eq0 : goal.returns-then-turns-eq0
+returns-then-turns-eq0 c =
+    ((λ z. (refl, refl)), ((λ sources first_sinks terms p o. absurd (let some = o.some in let none = c.if-turns-eq0.true in omega arith)), record { long = refl; high = λ k l. refl }))
+
+pub offset_bounds-sink-from : goal.offset_bounds-sink-from
+offset_bounds-sink-from c = let o = (asked c).opens in omega (arith, part-order _ o, part_small _ o)
+
+pub slice_bounds-missing_sink-count : goal.slice_bounds-missing_sink-count
+slice_bounds-missing_sink-count c = part-order _ (asked c).opens
+
+pub slice_bounds-missing_sink-start : goal.slice_bounds-missing_sink-start
+slice_bounds-missing_sink-start c = part-order _ (asked c).opens
+
+pub slice_bounds-missing_sink-end : goal.slice_bounds-missing_sink-end
+slice_bounds-missing_sink-end c = part-within _ (asked c).opens
+
+pub missing_sink-place-requires : goal.missing_sink-place-requires
+missing_sink-place-requires c = record { all_below = part-below _ (asked (goal.at.missing_sink-place-requires c).Else-turns-eq0).opens _ refl; from_in_bounds = zero-le }
+
+pub loop-place-init : goal.loop-place-init
+loop-place-init c = ((λ sources first_sinks terms p o. follow_start _ o _), c.missing_sink-place.ensures, refl, refl, record { long = refl; high = λ k l. refl })
+
+pub overflow_sub-to : goal.overflow_sub-to
+overflow_sub-to c = part-order _ (asked (goal.at.overflow_sub-to c).Else-turns-eq0).opens
+
+pub shape_of-in_tree-then-left-eq0 : goal.shape_of-in_tree-then-left-eq0
+shape_of-in_tree-then-left-eq0 c = c.loop-place.invariant.2
+
+pub shape_of-work-then-left-eq0 : goal.shape_of-work-then-left-eq0
+shape_of-work-then-left-eq0 c = c.loop-place.invariant.4.long
+
+pub returns-then-left-eq0 : goal.returns-then-left-eq0
+returns-then-left-eq0 c =
+    let inv = c.loop-place.invariant in (
+      (λ z. absurd (c.if-turns-eq0.false z)),
+      ((λ sources first_sinks terms p o. follow_out _ o (inv.0 _ _ _ _ o) inv.1 c.loop-place-test.true c.if-left-eq0.true), inv.4),
+    )
+
+pub follow_tried-tried-requires : goal.follow_tried-tried-requires
+follow_tried-tried-requires c =
+    let o = (asked (goal.at.follow_tried-tried-requires c).Else-turns-eq0).opens in
+    let room = enough (goal.at.follow_tried-tried-requires c).Else-turns-eq0 in
+    let same = c.loop-place.invariant.4.long in
+    follow_ready _ o (c.loop-place.invariant.0 _ _ _ _ o) (omega arith)
+
+pub stopped-requires : goal.stopped-requires
+stopped-requires c =
+    let o = (asked (goal.at.stopped-requires c).Else-turns-eq0).opens in
+    follow_some _ o (c.loop-place.invariant.0 _ _ _ _ o)
+
+pub shape_of-in_tree-in_default : goal.shape_of-in_tree-in_default
+shape_of-in_tree-in_default c = marks_long (goal.at.shape_of-in_tree-in_default c).After-follow_tried-tried
+
+pub shape_of-work-in_default : goal.shape_of-work-in_default
+shape_of-work-in_default c = (work-same (goal.at.shape_of-work-in_default c).After-follow_tried-tried).long
+
+pub returns-in_default : goal.returns-in_default
+returns-in_default c =
+    let inv = c.loop-place.invariant in (
+      (λ z. absurd (c.if-turns-eq0.false z)),
+      (
+        (λ sources first_sinks terms p o.
+            follow_stopped _ o (inv.0 _ _ _ _ o) inv.1 c.loop-place-test.true c.if-left-eq0.false (small (goal.at.returns-in_default c).Else-turns-eq0) c.follow_tried-tried.ensures.value
+            c.args.walk.over (marks (goal.at.returns-in_default c).After-follow_tried-tried) (λ k e. miss (0 ∷ 1 ∷ 2 ∷ []) 3 tt (rw e at c.in-Follows.keys2)) c.stopped.result c.stopped.ensures),
+        work-same (goal.at.returns-in_default c).After-follow_tried-tried,
+      ),
+    )
+
+pub turn_logged-tariff-requires : goal.turn_logged-tariff-requires
+turn_logged-tariff-requires c =
+    let inv = c.loop-place.invariant in
+    let o = (asked (goal.at.turn_logged-tariff-requires c).Else-turns-eq0).opens in
+    let short : length c.args.log.now < 2 ^ 64 = omega (arith, c.good.1.1.1.1.1.1.1.1.1.1.1.1.1.1.1.1.1.1.0.1) in
+    let room =
+    follow_room _ o (inv.0 _ _ _ _ o) inv.1 c.loop-place-test.true c.if-left-eq0.false (small (goal.at.turn_logged-tariff-requires c).Else-turns-eq0) c.follow_tried-tried.ensures.value c.in-Follows.is short in
+    (room.0, room.1, omega (arith, inv.3, c.good.1.1.1.1.1.1.1.1.1.1.1.0))
+
+pub overflow_sub-left : goal.overflow_sub-left
+overflow_sub-left c = some_of _ c.if-left-eq0.false
+
+pub offset_bounds-sink-from-in-loop-place : goal.offset_bounds-sink-from-in-loop-place
+offset_bounds-sink-from-in-loop-place c = let o = (asked (goal.at.offset_bounds-sink-from-in-loop-place c).Else-turns-eq0).opens in omega (arith, part-order _ o, part_small _ o)
+
+pub slice_bounds-missing_sink-count-in-loop-place : goal.slice_bounds-missing_sink-count-in-loop-place
+slice_bounds-missing_sink-count-in-loop-place c = part-order _ (asked (goal.at.slice_bounds-missing_sink-count-in-loop-place c).Else-turns-eq0).opens
+
+pub slice_bounds-missing_sink-start-in-loop-place : goal.slice_bounds-missing_sink-start-in-loop-place
+slice_bounds-missing_sink-start-in-loop-place c = part-order _ (asked (goal.at.slice_bounds-missing_sink-start-in-loop-place c).Else-turns-eq0).opens
+
+pub slice_bounds-missing_sink-end-in-loop-place : goal.slice_bounds-missing_sink-end-in-loop-place
+slice_bounds-missing_sink-end-in-loop-place c = part-within _ (asked (goal.at.slice_bounds-missing_sink-end-in-loop-place c).Else-turns-eq0).opens
+
+pub missing_sink-place-requires-in-loop-place : goal.missing_sink-place-requires-in-loop-place
+missing_sink-place-requires-in-loop-place c = record { all_below = part-below _ (asked (goal.at.missing_sink-place-requires-in-loop-place c).Else-turns-eq0).opens _ (marks_long (goal.at.missing_sink-place-requires-in-loop-place c).After-follow_tried-tried); from_in_bounds = c.loop-place.invariant.1.within }
+
+pub loop-place-smaller : goal.loop-place-smaller
+loop-place-smaller c = let some = some_of _ c.if-left-eq0.false in omega arith
+
+pub loop-place-preserved : goal.loop-place-preserved
+loop-place-preserved c =
+    let inv = c.loop-place.invariant in (
+      (λ sources first_sinks terms p o.
+          follow_more _ o (inv.0 _ _ _ _ o) inv.1 c.loop-place-test.true c.if-left-eq0.false (small (goal.at.loop-place-preserved c).Else-turns-eq0) c.follow_tried-tried.ensures.value
+          c.in-Follows.is (c.follow_tried-tried.ensures.stored.0 _ c.in-Follows.is) c.turn_logged-tariff.ensures),
+      missing-more inv.1 (c.follow_tried-tried.ensures.stored.0 _ c.in-Follows.is) c.missing_sink-place-in-loop-place.ensures,
+      marks_long (goal.at.loop-place-preserved c).After-follow_tried-tried,
+      ap (λ (x : Tariff). x.expanded) c.turn_logged-tariff.ensures ∙ add-zero c.loop-place.tariff.expanded ∙ inv.3,
+      work-same (goal.at.loop-place-preserved c).After-follow_tried-tried,
+    )
+
+pub shape_of-in_tree : goal.shape_of-in_tree
+shape_of-in_tree c = c.loop-place.invariant.2
+
+pub shape_of-work : goal.shape_of-work
+shape_of-work c = c.loop-place.invariant.4.long
+
+pub returns : goal.returns
+returns c =
+    let inv = c.loop-place.invariant in (
+      (λ z. absurd (c.if-turns-eq0.false z)),
+      ((λ sources first_sinks terms p o. follow_on _ o (inv.0 _ _ _ _ o) inv.1 c.loop-place-test.false), inv.4),
+    )

@@ -1,0 +1,61 @@
+-- `negotiation::take_up::follow_tried` meets its contract: the sinks that are tried are the goals of an array without any, the record is tested with them, and its cost
+-- is held against that of the search for them (`TriedLaws`).
+-- Assumes nothing.
+use lib.Seq.{length-take-le}
+use mathlib.Core.Path.{refl, sym}
+use native.Mathlib.Omega.{arith}
+use Rattle.negotiation.proofs.take_up.JudgedLaws.{no_end, judged_some, said_ended}
+use Rattle.negotiation.proofs.take_up.TriedLaws.{goals-enough, goals-asked, goals_fit, least_asks, least_said, tried-tested, judge_asks, tried_said}
+use Rattle.negotiation.proofs.take_up.follow_tried.Goals as goal
+
+pub returns-then-ends_here : goal.returns-then-ends_here
+returns-then-ends_here c =
+    (said_ended _ _ _ _ _ c.ends_here.ensures c.if-ends_here.true, ((λ count e. absurd (no_end e)), record { long = refl; high = λ k l. refl }))
+
+pub slice_bounds-goals-end : goal.slice_bounds-goals-end
+slice_bounds-goals-end c = goals-enough c.requires c.next_tried-tried.ensures
+
+pub slice_bounds-set_goals-end-2 : goal.slice_bounds-set_goals-end-2
+slice_bounds-set_goals-end-2 c = sym (length-take-le _ _ (goals-enough c.requires c.next_tried-tried.ensures))
+
+pub set_goals-requires : goal.set_goals-requires
+set_goals-requires c = goals-asked c.requires c.next_tried-tried.ensures
+
+-- the part of table 7 again
+pub offset_bounds-sink-a-2 : goal.offset_bounds-sink-a-2
+offset_bounds-sink-a-2 c =
+    omega (arith, c.next_tried-tried.ensures.order, c.next_tried-tried.ensures.within, c.good.1.1.1.1.0.1)
+
+pub slice_bounds-least_cost-count : goal.slice_bounds-least_cost-count
+slice_bounds-least_cost-count c = c.next_tried-tried.ensures.order
+
+pub slice_bounds-least_cost-start : goal.slice_bounds-least_cost-start
+slice_bounds-least_cost-start c = c.next_tried-tried.ensures.order
+
+pub slice_bounds-least_cost-end : goal.slice_bounds-least_cost-end
+slice_bounds-least_cost-end c = c.next_tried-tried.ensures.within
+
+pub least_cost-least-requires : goal.least_cost-least-requires
+least_cost-least-requires c = least_asks c.requires c.next_tried-tried.ensures
+
+pub slice_bounds-goals-end-2 : goal.slice_bounds-goals-end-2
+slice_bounds-goals-end-2 c = goals_fit c.requires c.next_tried-tried.ensures c.set_goals.ensures
+
+pub slice_bounds-follow_turn-end : goal.slice_bounds-follow_turn-end
+slice_bounds-follow_turn-end c =
+    sym (length-take-le _ _ (goals_fit c.requires c.next_tried-tried.ensures c.set_goals.ensures))
+
+pub follow_turn-count-requires : goal.follow_turn-count-requires
+follow_turn-count-requires c =
+    tried-tested c.requires c.next_tried-tried.ensures c.set_goals.ensures
+
+pub judged-requires : goal.judged-requires
+judged-requires c =
+    judge_asks c.requires c.next_tried-tried.ensures c.set_goals.ensures _ c.follow_turn-count.ensures.value
+
+pub returns : goal.returns
+returns c =
+    let answer =
+    tried_said c.requires c.next_tried-tried.ensures c.set_goals.ensures _ c.follow_turn-count.ensures.value _ c.ends_here.ensures
+    c.if-ends_here.false (least_said c.requires c.next_tried-tried.ensures _ c.least_cost-least.ensures.value) c.judged.ensures in
+    (answer, ((λ count e. c.follow_turn-count.ensures.stored (judged_some _ _ _ c.judged.ensures e)), c.least_cost-least.ensures.same_from))

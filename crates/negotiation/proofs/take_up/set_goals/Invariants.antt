@@ -1,0 +1,12 @@
+-- `negotiation::take_up::set_goals` meets its contract. The loop's invariant: the entries at the sinks passed are 1, the others are as before.
+-- Assumes nothing.
+use Prim.Native.Nat.{◌-◌}
+use lib.ListN.{length, take}
+use Rattle.job.specs.Steps.{Stored}
+use Rattle.negotiation.proofs.take_up.set_goals.Given as goal
+
+abbrev pub invariant-loop-k : goal.invariant-loop-k
+invariant-loop-k l = Stored 1 (take l.k l.sinks) l.initial.goals l.goals
+
+abbrev pub decreases-loop-k : goal.decreases-loop-k
+decreases-loop-k l = length l.sinks - l.k

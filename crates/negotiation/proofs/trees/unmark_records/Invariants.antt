@@ -1,0 +1,13 @@
+-- `negotiation::trees::unmark_records` meets its contract: after the turns up to a record, the marks of the nodes of the records before it are cleared.
+-- Assumes nothing.
+use Prim.Native.Nat.{◌-◌}
+use lib.ListN.{length}
+use Rattle.job.specs.Steps.{Stored}
+use Rattle.negotiation.proofs.RegionLaws.{Walking}
+use Rattle.negotiation.proofs.trees.unmark_records.Given as goal
+
+abbrev pub invariant-loop-at : goal.invariant-loop-at
+invariant-loop-at l = Walking (length l.initial.in_tree) l.from l.until l.log l.at (λ xs. Stored 0 xs l.initial.in_tree l.in_tree)
+
+abbrev pub decreases-loop-at : goal.decreases-loop-at
+decreases-loop-at l = l.until - l.at

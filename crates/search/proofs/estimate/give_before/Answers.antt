@@ -1,0 +1,86 @@
+-- `search::estimate::give_before` meets its contract. The invariant: the places of v's row below e have been passed. The measure is how many are left.
+-- Assumes nothing.
+use mathlib.Core.Logic.{⊎_elim}
+use mathlib.Core.Path.{sym, ◌∙◌}
+use Prim.Native.Nat.{◌-◌, ◌*◌, ◌≤◌, ◌<◌}
+use native.Mathlib.Omega.{arith}
+use lib.ListN.{length}
+use Rattle.price.specs.Bounds.{nodes_most}
+use Rattle.search.specs.Block.{graph_of}
+use Rattle.search.specs.Distance.{far}
+use Rattle.search.specs.Clamped.{clamped_base}
+use Rattle.search.specs.Estimates.{SomeGiven}
+use Rattle.search.proofs.ClampedLaws.{base_light}
+use Rattle.search.proofs.BucketLaws.{count_room}
+use Rattle.search.proofs.estimate.GiveLaws.{key_small}
+use Rattle.search.proofs.estimate.EstimateSteps.{lacking_is, lacking_some, sized-beside, row_begin, row_skip, row_more, row-end}
+use Rattle.search.proofs.estimate.give_before.Goals.{At-loop-e}
+use Rattle.search.proofs.estimate.give_before.Goals as goal
+
+-- what has been given so far, from the nodes that wait at the entry
+some : (c : Head)
+    → SomeGiven (graph_of (entry c).args.kind.now (entry c).args.first_back.now (entry c).args.back_source.now) (clamped_base (entry c).args.kind.now)
+    (entry c).args.scale (entry c).args.v (entry c).args.estimate (entry c).args.work.now c.loop.work (entry c).args.head.now c.loop.head
+    (entry c).args.start.count c.loop.f.count (entry c).requires.1.lined
+some c = (c.loop.invariant.0 (entry c).requires.1.lined).some
+
+room : (c : At-loop-e) → (length c.args.kind.now ≤ nodes_most) × (8 * length c.args.kind.now ≤ length c.loop-e.work)
+room c = (c.requires.1.few, rw (some c).same.long c.requires.1.sized.long)
+
+small : (c : At-loop-e) → c.args.scale * c.args.estimate < far
+small c = omega (arith, key_small c.requires.1.scale_most_lem c.requires.1.level_most_lem)
+
+pub loop-e-init : goal.loop-e-init
+loop-e-init c =
+    (λ l. row_begin c.requires.1.queue c.row_place-e.ensures, c.requires.1.lacking_is)
+
+pub overflow_cast-u : goal.overflow_cast-u
+overflow_cast-u c = omega (arith, c.type_inv.back_source c.loop-e.e)
+
+pub bounds-work-n : goal.bounds-work-n
+bounds-work-n c =
+    let r = room (goal.at.bounds-work-n c).At-loop-e in
+    let h = c.if-u-n.true in
+    omega arith
+
+pub give-f-requires : goal.give-f-requires
+give-f-requires c =
+    let h = c.if-u-n.true in
+    let g = c.requires.1 in (
+      h,
+      g.few,
+      (some (goal.at.give-f-requires c).At-loop-e).lined.waiting.heads,
+      g.firsts-long,
+      g.scale_most_lem,
+      g.level_most_lem,
+      count_room (some (goal.at.give-f-requires c).At-loop-e).lined _ h c.if-work-n.true,
+      sized-beside g.sized (some (goal.at.give-f-requires c).At-loop-e).same,
+      (some (goal.at.give-f-requires c).At-loop-e).queue,
+      lacking_some _ _ c.loop-e.work h c.if-work-n.true c.loop-e.invariant.1,
+    )
+
+pub loop-e-preserved : goal.loop-e-preserved
+loop-e-preserved c =
+    let inv = c.loop-e.invariant in
+    ⊎_elim
+    (λ w.
+    rw (w.10, w.11, w.12) (
+      λ l.
+          row_more (inv.0 l) c.row_place-to.ensures c.loop-e-test.true (small (goal.at.loop-e-preserved c).At-loop-e) w.0.taken (base_light _ _) w.2.taken w.5.ensures.0
+          w.5.ensures.1,
+      lacking_is w.0.taken w.2.taken (small (goal.at.loop-e-preserved c).At-loop-e) w.5.ensures.0 inv.1 w.5.ensures.2,
+    ))
+    (⊎_elim
+    (λ w. rw (w.3, w.4, w.5) (λ l. row_skip (inv.0 l) (λ h b. w.2.left b), inv.1))
+    (λ w. rw (w.1, w.2, w.3) (λ l. row_skip (inv.0 l) (λ h b. omega (arith, w.0.left)), inv.1)))
+    c.if-u-n.branch
+
+pub shape_of-work : goal.shape_of-work
+shape_of-work c = (some c).same.long
+
+pub shape_of-head : goal.shape_of-head
+shape_of-head c = (some c).lined.waiting.heads ∙ sym c.requires.1.lined.waiting.heads
+
+pub returns : goal.returns
+returns c =
+    (λ l. row-end (c.loop-e.invariant.0 l) c.row_place-to.ensures c.loop-e-test.false, c.loop-e.invariant.1)

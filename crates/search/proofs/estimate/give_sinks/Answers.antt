@@ -1,0 +1,78 @@
+-- `search::estimate::give_sinks` meets its contract. The invariant: the unjoined sinks at places below i have estimate 0. The measure is how many sinks are left.
+-- Assumes nothing.
+use mathlib.Core.List.{[]}
+use mathlib.Core.Logic.{⊎_elim}
+use mathlib.Core.Path.{sym, ◌∙◌}
+use Prim.Native.Nat.{◌-◌, ◌*◌, ◌≤◌}
+use native.Mathlib.Omega.{arith}
+use lib.ListN.{length}
+use Rattle.price.specs.Bounds.{nodes_most}
+use Rattle.price.proofs.TestLaws.{true≢false}
+use Rattle.search.proofs.DistanceLaws.{in_the_tree}
+use Rattle.search.proofs.ClampedLaws.{base_light}
+use Rattle.search.proofs.BucketLaws.{count_room}
+use Rattle.search.proofs.estimate.EstimateSteps.{lacking_is, lacking_some, sized-beside}
+use Rattle.search.proofs.estimate.EstimateStart.{sinks-none, sinks_passed, stands_zero, sinks-more, sinks-all}
+use Rattle.search.proofs.estimate.give_sinks.Goals.{At-loop-i}
+use Rattle.search.proofs.estimate.give_sinks.Goals as goal
+
+room : (c : At-loop-i) → (length c.args.kind.now ≤ nodes_most) × (8 * length c.args.kind.now ≤ length c.loop-i.work)
+room c = (c.requires.0, rw (c.loop-i.invariant.0 []).same.long c.requires.4.long)
+
+pub loop-i-init : goal.loop-i-init
+loop-i-init c =
+    let pre = c.requires in
+    (λ sources. rw pre.9 (sinks-none pre.6 pre.5 pre.7 pre.8), pre.10)
+
+pub overflow_cast-s : goal.overflow_cast-s
+overflow_cast-s c = omega (arith, c.type_inv.sinks c.loop-i.i)
+
+pub bounds-work-n : goal.bounds-work-n
+bounds-work-n c =
+    let r = room (goal.at.bounds-work-n c).At-loop-i in
+    let h = c.if-s-n.true in
+    omega arith
+
+pub give-f-requires : goal.give-f-requires
+give-f-requires c =
+    let h = c.if-s-n.true in
+    let pre = c.requires in
+    let given = c.loop-i.invariant.0 [] in (
+      h,
+      pre.0,
+      given.lined.waiting.heads,
+      pre.1,
+      pre.3,
+      omega arith,
+      count_room given.lined _ h c.if-work-n.true,
+      sized-beside pre.4 given.same,
+      given.queue,
+      lacking_some _ _ c.loop-i.work h c.if-work-n.true c.loop-i.invariant.1,
+    )
+
+pub loop-i-preserved : goal.loop-i-preserved
+loop-i-preserved c =
+    let inv = c.loop-i.invariant in
+    ⊎_elim
+    (λ w.
+    rw (w.12, w.13, w.14) (
+      λ sources.
+          sinks-more (inv.0 sources) c.loop-i-test.true w.0.taken w.2.taken w.4.taken (base_light _ _) (c.requires.12 _ w.0.taken w.2.taken)
+          w.7.ensures.0 w.7.ensures.1,
+      lacking_is w.0.taken w.4.taken (omega arith) w.7.ensures.0 inv.1 w.7.ensures.2,
+    ))
+    (⊎_elim
+    (λ w. rw (w.5, w.6, w.7) (λ sources. sinks_passed (inv.0 sources) (λ h o. stands_zero (inv.0 sources) _ h w.4.left), inv.1))
+    (⊎_elim
+    (λ w. rw (w.3, w.4, w.5) (λ sources. sinks_passed (inv.0 sources) (λ h o. absurd (true≢false (sym (in_the_tree _ _ w.2.left) ∙ o))), inv.1))
+    (λ w. rw (w.1, w.2, w.3) (λ sources. sinks_passed (inv.0 sources) (λ h o. absurd (omega (arith, w.0.left))), inv.1))))
+    c.if-s-n.branch
+
+pub shape_of-work : goal.shape_of-work
+shape_of-work c = (c.loop-i.invariant.0 []).same.long
+
+pub shape_of-head : goal.shape_of-head
+shape_of-head c = (c.loop-i.invariant.0 []).lined.waiting.heads ∙ sym c.requires.7
+
+pub returns : goal.returns
+returns c = (λ sources. sinks-all (c.loop-i.invariant.0 sources) c.loop-i-test.false, c.loop-i.invariant.1)

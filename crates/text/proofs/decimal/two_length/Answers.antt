@@ -1,0 +1,11 @@
+-- `decimal::two_length` meets its contract: the digits, a comma before each field, the letter and LF.
+-- Assumes nothing.
+use Rattle.std.proofs.Common.{rules}
+use Rattle.text.proofs.DecimalLaws.{two_size}
+use Rattle.text.proofs.decimal.two_length.Goals as goal
+
+pub returns : goal.returns
+returns c =
+    let a = c.args in
+    let l = two_size 0 a.first a.second in
+    search rules

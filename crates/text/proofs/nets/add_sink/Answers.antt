@@ -1,0 +1,73 @@
+-- `text::nets::add_sink` meets its contract: the line that is read stands in the tables, and its node bears the stamp.
+-- Assumes nothing.
+use mathlib.Core.List.{List}
+use mathlib.Core.Path.{refl}
+use Prim.Native.Nat.{ℕ, ◌-◌, ◌<◌}
+use native.Mathlib.Omega.{arith}
+use lib.ListN.{drop}
+use Rattle.search.specs.Replies.{sinks_most}
+use Rattle.job.specs.Tables.{sink_kind}
+use Rattle.text.specs.JobText.{Reading, sink_line, taking, of_kind}
+use Rattle.text.specs.Steps.{three_of}
+use Rattle.text.proofs.NetLineLaws.{bearing, bearing_marked, sink-few, sink_reading, sink-refused, sink_place}
+use Rattle.text.proofs.nets.add_sink.Goals.{In-Sink, Start}
+use Rattle.text.proofs.nets.add_sink.Goals as goal
+
+abbrev entry : In-Sink → Start
+entry c = c.before.before.before.before.before.before.before.before.before
+
+abbrev reading : Start → List ℕ → Reading (List ℕ)
+reading s pins =
+    let a = s.args in
+    of_kind sink_kind a.kind.now (taking three_of (sink_line a.timed a.nodes a.nets (a.c.nets - 1) pins a.c.sinks (drop a.c.at a.text.now)))
+
+-- a sink that is read was not one too many
+few : (c : In-Sink) → c.args.c.sinks < sinks_most
+few c =
+    let a = c.args in
+    let pins = bearing a.nodes a.c.nets a.seen.now in
+    let marked = bearing_marked a.c.nets a.seen.now a.nodes in
+    sink-few a.timed a.kind.now a.nodes a.nets (a.c.nets - 1) pins a.c.sinks (drop a.c.at a.text.now)
+    (sink_reading (a.c.nets - 1) a.text.now {r = reading (entry c) pins} (c.sink_line.ensures.by_index pins marked) c.in-Sink.is)
+
+pub offset_bounds-sink-sinks : goal.offset_bounds-sink-sinks
+offset_bounds-sink-sinks c = omega (arith, few c)
+
+pub bounds-sink-sinks : goal.bounds-sink-sinks
+bounds-sink-sinks c = omega (arith, few c)
+
+pub bounds-criticality-sinks : goal.bounds-criticality-sinks
+bounds-criticality-sinks c = omega (arith, few c)
+
+pub bounds-seen-node : goal.bounds-seen-node
+bounds-seen-node c =
+    let a = c.args in
+    omega (arith, (sink_place a.nodes a.c.at a.text.now c.in-Sink.is c.sink_line.ensures.sink_place).1)
+
+pub overflow_add-result-in-Sink : goal.overflow_add-result-in-Sink
+overflow_add-result-in-Sink c = omega (arith, few (goal.at.overflow_add-result-in-Sink c).In-Sink)
+
+pub returns-in-Sink : goal.returns-in-Sink
+returns-in-Sink c =
+    let a = c.args in
+    let is = c.in-Sink.is in
+    let place = sink_place a.nodes a.c.at a.text.now is c.sink_line.ensures.sink_place in
+    λ pins m. (
+      _,
+      _,
+      sink_reading (a.c.nets - 1) a.text.now {r = reading (goal.at.returns-in-Sink c).Start pins} (c.sink_line.ensures.by_index pins m) is,
+      place.1,
+      place.0,
+      refl,
+      refl,
+      refl,
+      refl,
+      refl,
+      refl,
+      refl,
+    )
+
+pub returns-in-Refused : goal.returns-in-Refused
+returns-in-Refused c =
+    let a = c.args in
+    λ pins m. sink-refused (a.c.nets - 1) a.text.now {r = reading (goal.at.returns-in-Refused c).Start pins} (c.sink_line.ensures.by_index pins m) c.in-Refused.is

@@ -1,0 +1,35 @@
+-- `text::nets::net_line` meets its contract: the line goes by its letter, and what it adds keeps what holds between two lines.
+-- Assumes nothing.
+use mathlib.Core.Path.{sym, ◌∙◌}
+use native.Mathlib.Omega.{arith}
+use Rattle.text.proofs.nets.NetStepLaws.{due_below, due-is, source_step, source_undue, sink_step, other_letter, no_net}
+use Rattle.text.proofs.nets.net_line.Goals as goal
+
+pub add_source-requires : goal.add_source-requires
+add_source-requires c =
+    let a = c.args in
+    let below = due_below a.c.nets a.nets a.c.first a.c.sinks c.source_due.ensures c.if-source_due.true in
+    omega (arith, below, c.requires)
+
+pub returns-then-source_due : goal.returns-then-source_due
+returns-then-source_due c =
+    let a = c.args in
+    let kept = c.requires in
+    let due = c.source_due.ensures in
+    let below = due_below a.c.nets a.nets a.c.first a.c.sinks due c.if-source_due.true in
+    source_step kept.0 a.timed _ kept.1 c.add_source.result _ _ _ c.if-b-eq83.true (due-is kept.0 ∙ sym due ∙ c.if-source_due.true) below c.add_source.ensures
+
+pub returns-then-b-eq83 : goal.returns-then-b-eq83
+returns-then-b-eq83 c =
+    let kept = c.requires in record { criticality_after = source_undue kept.0 c.args.timed _ kept.1 c.if-b-eq83.true (due-is kept.0 ∙ sym c.source_due.ensures ∙ c.if-source_due.false); kept_after = tt }
+
+pub returns-then-c-ge1 : goal.returns-then-c-ge1
+returns-then-c-ge1 c =
+    let kept = c.requires in
+    sink_step kept.0 c.args.timed _ kept.1 c.add_sink.result _ _ _ c.if-b-eq83.false c.if-b-eq84.true c.if-c-ge1.true c.add_sink.ensures
+
+pub returns-else-c-ge1 : goal.returns-else-c-ge1
+returns-else-c-ge1 c = record { criticality_after = no_net c.requires.0 c.args.timed _ c.requires.1 c.if-b-eq83.false c.if-c-ge1.false; kept_after = tt }
+
+pub returns-else-b-eq84 : goal.returns-else-b-eq84
+returns-else-b-eq84 c = record { criticality_after = other_letter c.requires.0 c.args.timed _ c.requires.1 c.if-b-eq83.false c.if-b-eq84.false; kept_after = tt }

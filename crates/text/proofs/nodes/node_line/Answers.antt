@@ -1,0 +1,72 @@
+-- `nodes::node_line` meets its contract: each return is one of the judgements of an N line, in their order.
+-- Assumes nothing.
+use mathlib.Core.Path.{refl}
+use Prim.Native.Nat.{◌+◌}
+use native.Mathlib.Omega.{arith}
+use Rattle.text.proofs.JudgedLaws.{line_place}
+use Rattle.text.proofs.nodes.NodeLineLaws.{node-beyond-count, node-beyond_kind, node-beyond-least, node-beyond-most, node-beyond_delay, node_within_lem}
+use Rattle.text.proofs.nodes.NodeLineLaws.{node-numbers, node_shape, node-beyond, node_wrong, node-taken}
+use Rattle.text.proofs.nodes.node_line.Goals as goal
+
+pub line_fields-requires : goal.line_fields-requires
+line_fields-requires c = rw c.one_of_two-count.ensures (node-numbers c.args.timed)
+
+pub returns-in_default : goal.returns-in_default
+returns-in_default c =
+    let a = c.args in record { value = node_shape a.timed a.nodes a.v a.at a.text.now c.one_of_two-count.ensures c.line_fields.ensures.value c.in_default.is; node_place = tt }
+
+pub returns-then-nodes-first : goal.returns-then-nodes-first
+returns-then-nodes-first c =
+    let a = c.args in record {
+      value = node-beyond a.timed a.nodes a.v a.at a.text.now c.one_of_two-count.ensures c.line_fields.ensures.value c.in-Fields.is refl
+          (node-beyond-count _ _ _ _ _ c.if-nodes-first.true);
+      node_place = tt;
+    }
+
+pub returns-then-second-gt-KIND_MOST : goal.returns-then-second-gt-KIND_MOST
+returns-then-second-gt-KIND_MOST c =
+    let a = c.args in record {
+      value = node-beyond a.timed a.nodes a.v a.at a.text.now c.one_of_two-count.ensures c.line_fields.ensures.value c.in-Fields.is refl
+          (node-beyond_kind _ _ _ _ _ c.if-nodes-first.false c.if-second-gt-KIND_MOST.true);
+      node_place = tt;
+    }
+
+pub returns-then-third-lt1 : goal.returns-then-third-lt1
+returns-then-third-lt1 c =
+    let a = c.args in record {
+      value = node-beyond a.timed a.nodes a.v a.at a.text.now c.one_of_two-count.ensures c.line_fields.ensures.value c.in-Fields.is refl
+          (node-beyond-least _ _ _ _ _ c.if-nodes-first.false c.if-second-gt-KIND_MOST.false c.if-third-lt1.true);
+      node_place = tt;
+    }
+
+pub returns-then-third-gt-CAPACITY_MOST : goal.returns-then-third-gt-CAPACITY_MOST
+returns-then-third-gt-CAPACITY_MOST c =
+    let a = c.args in record {
+      value = node-beyond a.timed a.nodes a.v a.at a.text.now c.one_of_two-count.ensures c.line_fields.ensures.value c.in-Fields.is refl
+          (node-beyond-most _ _ _ _ _ c.if-nodes-first.false c.if-second-gt-KIND_MOST.false c.if-third-lt1.false c.if-third-gt-CAPACITY_MOST.true);
+      node_place = tt;
+    }
+
+pub returns-then-delay-gt-DELAY_MOST : goal.returns-then-delay-gt-DELAY_MOST
+returns-then-delay-gt-DELAY_MOST c =
+    let a = c.args in record {
+      value = node-beyond a.timed a.nodes a.v a.at a.text.now c.one_of_two-count.ensures c.line_fields.ensures.value c.in-Fields.is c.one_of_two-delay.ensures
+          (node-beyond_delay _ _ _ _ _ c.if-nodes-first.false c.if-second-gt-KIND_MOST.false c.if-third-lt1.false c.if-third-gt-CAPACITY_MOST.false (omega (arith, c.if-delay-gt-DELAY_MOST.true)));
+      node_place = tt;
+    }
+
+pub returns-then-first-v : goal.returns-then-first-v
+returns-then-first-v c =
+    let a = c.args in record {
+      value = node_wrong a.timed a.nodes a.v a.at a.text.now c.one_of_two-count.ensures c.line_fields.ensures.value c.in-Fields.is c.one_of_two-delay.ensures
+          (node_within_lem _ _ _ _ _ c.if-nodes-first.false c.if-second-gt-KIND_MOST.false c.if-third-lt1.false c.if-third-gt-CAPACITY_MOST.false (omega (arith, c.if-delay-gt-DELAY_MOST.false))) c.if-first-v.true;
+      node_place = tt;
+    }
+
+pub returns : goal.returns
+returns c =
+    let a = c.args in record {
+      value = node-taken a.timed a.nodes a.v a.at a.text.now c.one_of_two-count.ensures c.line_fields.ensures.value c.in-Fields.is c.one_of_two-delay.ensures
+          (node_within_lem _ _ _ _ _ c.if-nodes-first.false c.if-second-gt-KIND_MOST.false c.if-third-lt1.false c.if-third-gt-CAPACITY_MOST.false (omega (arith, c.if-delay-gt-DELAY_MOST.false))) c.if-first-v.false;
+      node_place = line_place (a.at + 1) a.text.now c.in-Fields.is c.line_fields.ensures.fields_place;
+    }

@@ -1,0 +1,46 @@
+-- `printing::print_line` meets its contract: the line is measured first, and written where it fits.
+-- Assumes nothing.
+use Prim.Native.Nat.{◌+◌, ◌≤◌}
+use native.Mathlib.Omega.{arith}
+use lib.ListN.{length}
+use Rattle.std.proofs.Common.{rules}
+use Rattle.text.specs.Lines.{print_line}
+use Rattle.text.proofs.PlacedLaws.{put-room, put_letter_then}
+use Rattle.text.proofs.LineReplyLaws.{line_size, line-short, line-written}
+use Rattle.text.proofs.printing.print_line.Goals.{Else-buffer-at-2}
+use Rattle.text.proofs.printing.print_line.Goals as goal
+
+-- the line fits
+fits : (c : Else-buffer-at-2)
+    → (entry c.before).args.at + length (print_line (entry c.before).args.letter (entry c.before).args.fields.now) ≤ length (entry c.before).args.buffer.now
+fits c =
+    let start = entry c.before in
+    let size = line_size start.args.letter start.args.fields.now in
+    let counted = line_size 0 start.args.fields.now in
+    let good = start.good in
+    omega (arith, c.if2.false)
+
+pub returns-then-buffer-at : goal.returns-then-buffer-at
+returns-then-buffer-at c = record { answers = line-short _ _ _ _ (search rules) }
+
+pub returns-then-buffer-at-2 : goal.returns-then-buffer-at-2
+returns-then-buffer-at-2 c =
+    let a = c.args in
+    let size = line_size a.letter a.fields.now in
+    let counted = line_size 0 a.fields.now in record { answers = line-short _ _ _ _ (search rules) }
+
+pub put_byte-next-requires : goal.put_byte-next-requires
+put_byte-next-requires c =
+    let a = c.args in
+    let size = line_size a.letter a.fields.now in
+    let room = fits c in
+    search rules
+
+pub put_fields-requires : goal.put_fields-requires
+put_fields-requires c =
+    let a = c.args in
+    let size = line_size a.letter a.fields.now in
+    put-room c.put_byte-next.ensures _ (omega (arith, fits c))
+
+pub returns : goal.returns
+returns c = record { answers = line-written _ _ _ _ (fits (goal.at.returns c).Else-buffer-at-2) (put_letter_then _ c.put_byte-next.ensures (fits (goal.at.returns c).Else-buffer-at-2) (λ room. c.put_fields.ensures)) }
