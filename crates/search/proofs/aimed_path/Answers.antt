@@ -21,7 +21,7 @@ module _ (c : After-fits_timed) where
   all_fit e =
       fitting_of (block_of c.args.kind.now c.args.capacity.now c.args.first_edge.now c.args.edge_target.now)
       (weighed_congestion c.args.weighting c.args.delay.now c.args.factor c.args.history.now c.args.others.now) c.args.in_tree.now
-      c.args.sinks.now c.args.work.now c.fits2.ensures c.fits_timed.ensures e
+      c.args.sinks.now c.args.work.now c.fits-fit.ensures c.fits_timed.ensures e
 
 -- the first table by target has another length than table 3
 pub returns-then-first_back-kind : goal.returns-then-first_back-kind

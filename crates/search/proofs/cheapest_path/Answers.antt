@@ -21,7 +21,7 @@ module _ (c : After-fits_timed) where
   all_fit e =
       fitting_of (block_of c.args.kind.now c.args.capacity.now c.args.first_edge.now c.args.edge_target.now)
       (weighed_congestion c.args.weighting c.args.delay.now c.args.factor c.args.history.now c.args.others.now) c.args.in_tree.now
-      c.args.sinks.now c.args.work.now c.fits2.ensures c.fits_timed.ensures e
+      c.args.sinks.now c.args.work.now c.fits-fit.ensures c.fits_timed.ensures e
 
 pub join-requires : goal.join-requires
 join-requires c = fitted _ _ _ _ _ (all_fit (goal.at.join-requires c).After-fits_timed c.if-fits_timed.true)

@@ -12,7 +12,7 @@ use Rattle.search.specs.Turn.{weighed_congestion}
 use Rattle.search.specs.Layout.{entry_at}
 use Rattle.search.proofs.aimed_turn.AimStart.{started_sized, started_queue, started_lacking, started_out}
 use Rattle.search.proofs.aimed_turn.AimRun.{TurnOver, Turning, Raised, turn-begins, turn-long, turn_count_lem, turn_low, turn-heads, level-ready, turn_raised, turn-ends, expands-ready, turn-expands, same_blanks, spreads-ready, turn-spreads, spreading_falls, falls_expanding, falls_spreading}
-use Rattle.search.proofs.aimed_turn.run.Goals.{After-done, At-loop-f, Joined-f-gt0}
+use Rattle.search.proofs.aimed_turn.run.Goals.{After-done, At-loop-f, Joined-f-gt0, then-f-gt0, else-f-gt0}
 use Rattle.search.proofs.aimed_turn.run.Goals as goal
 
 abbrev at_loop_f : Joined-f-gt0 → At-loop-f
@@ -32,23 +32,25 @@ over c =
     record { ready = c.requires.0; scale_is = s.0; scale_pos = s.1; scale_most_lem = s.2 }
 
 -- how far it has come
-abbrev At : (c : Head) (w : List ℕ) → Over c w → Type 0
-At c w o = Turning o c.loop.work c.loop.head c.loop.f.count c.loop.f.lacking c.loop.r.best c.loop.r.low c.loop.level c.loop.expanded
+abbrev At : (c : At-loop-f) (w : List ℕ) → Over c w → Type 0
+At c w o = Turning o c.loop-f.work c.loop-f.head c.loop-f.f.count c.loop-f.f.lacking c.loop-f.r.best c.loop-f.r.low c.loop-f.level c.loop-f.expanded
 
 -- at its beginning
-begun : (c : Head)
-    → Turning (over c) (given c).give_sinks.new.1.1.0 (given c).give_sinks.new.1.1.1.0 (given c).give_sinks.result.count
-    (given c).give_sinks.result.lacking far far 0 0
-begun c = let g = (given c).give_sinks.ensures in turn-begins (over c) (entry c).requires.1.1 g.0 g.1
+begun : (c : At-loop-f)
+    → Turning (over c) c.give_sinks-f.new.work c.give_sinks-f.new.head c.give_sinks-f.result.count c.give_sinks-f.result.lacking far far 0 0
+begun c = let g = c.give_sinks-f.ensures in turn-begins (over c) c.requires.1.1 g.0 g.1
 
 state : (c : At-loop-f) → At c c.args.work.now (over c)
 state c = c.loop-f.invariant c.args.work.now (over c) (begun c)
 
 -- at the level to which it rises
-raise : (c : Level) (w : List ℕ) (o : Over c.before.before w) → At c.before.before w o
-    → Raised o c.before.before.loop.work c.before.before.loop.head c.before.before.loop.f.count c.before.before.loop.f.lacking
-    c.before.before.loop.r.best c.before.before.loop.r.low c.if1.level c.before.before.loop.expanded
-raise c w o s = turn_raised s (⊎_elim (λ q. inl (rw q.3 q.2.ensures)) (λ q. inr (q.0.left, q.1)) c.if1.branch)
+raise : (c : Joined-f-gt0) (w : List ℕ) (o : Over (at_loop_f c) w) → At (at_loop_f c) w o
+    → Raised o c.loop-f.work c.loop-f.head c.loop-f.f.count c.loop-f.f.lacking c.loop-f.r.best c.loop-f.r.low c.if-f-gt0.level c.loop-f.expanded
+raise c w o s =
+    turn_raised s (elim c.if-f-gt0.branch [
+      then-f-gt0 q ↦ inl (rw q.level-is q.lowest-level.ensures)
+    | else-f-gt0 q ↦ inr (q.if-f-gt0.false, q.level-is)
+    ])
 
 raised : (c : Joined-f-gt0) → Raised (over (at_loop_f c)) c.loop-f.work c.loop-f.head c.loop-f.f.count
     c.loop-f.f.lacking c.loop-f.r.best c.loop-f.r.low c.if-f-gt0.level c.loop-f.expanded
