@@ -26,7 +26,7 @@ loop-e-preserved c =
     let at = c.loop-e in
     let a = c.args in
     let next = left-next a.n a.u at.low at.e a.to a.edge_target.now (search rules) (search rules) in
-    let risen =
+    let risen : Kept (row_sound a.n a.u (slice a.from a.to a.edge_target.now)) c.if-v-low.fine (both (not (eqb c.v a.u)) (left_sound a.n a.u (c.v + 1) (slice (at.e + 1) a.to a.edge_target.now))) =
     (elim c.if-v-low.branch [ then-v-low w ↦ fails _ at.invariant next (lt-leb _ _ w.if-v-low.true) w.fine-is | else-v-low w ↦ stays _ at.invariant next (le-leb _ _ w.if-v-low.false) w.fine-is ])
     in
     (elim c.if-v-u.branch [ then-v-u w ↦ fails _ risen refl (ap not (eq-eqb _ _ w.if-v-u.true)) w.fine-is | else-v-u w ↦ stays _ risen refl (ap not (ne_eqb _ _ w.if-v-u.false)) w.fine-is ])
