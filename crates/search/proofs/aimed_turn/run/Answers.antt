@@ -2,21 +2,19 @@
 -- how many nodes are not expanded, lack an estimate or wait to spread theirs.
 -- Assumes nothing.
 use mathlib.Core.List.{List}
-use mathlib.Core.Logic.{⊎_elim, inl, inr}
-use mathlib.Core.Path.{refl, sym}
+use mathlib.Core.Logic.{◌⊎◌, inl, inr}
+use mathlib.Core.Path.{◌≡◌, refl, sym}
 use Prim.Native.Nat.{ℕ, ◌+◌, ◌-◌, ◌≤◌}
 use native.Mathlib.Omega.{arith}
 use lib.ListN.{length, get_or-replicate}
 use Rattle.search.specs.Distance.{far}
 use Rattle.search.specs.Turn.{weighed_congestion}
 use Rattle.search.specs.Layout.{entry_at}
+use Rattle.search.specs.Buckets.{LowestFrom}
 use Rattle.search.proofs.aimed_turn.AimStart.{started_sized, started_queue, started_lacking, started_out}
 use Rattle.search.proofs.aimed_turn.AimRun.{TurnOver, Turning, Raised, turn-begins, turn-long, turn_count_lem, turn_low, turn-heads, level-ready, turn_raised, turn-ends, expands-ready, turn-expands, same_blanks, spreads-ready, turn-spreads, spreading_falls, falls_expanding, falls_spreading}
 use Rattle.search.proofs.aimed_turn.run.Goals.{After-done, At-loop-f, Joined-f-gt0, then-f-gt0, else-f-gt0}
 use Rattle.search.proofs.aimed_turn.run.Goals as goal
-
-abbrev at_loop_f : Joined-f-gt0 → At-loop-f
-at_loop_f c = c.before.before
 
 -- what the turn is over
 abbrev Over : At-loop-f → List ℕ → Type 0
@@ -43,18 +41,14 @@ begun c = let g = c.give_sinks-f.ensures in turn-begins (over c) c.requires.1.1 
 state : (c : At-loop-f) → At c c.args.work.now (over c)
 state c = c.loop-f.invariant c.args.work.now (over c) (begun c)
 
--- at the level to which it rises
-raise : (c : Joined-f-gt0) (w : List ℕ) (o : Over (at_loop_f c) w) → At (at_loop_f c) w o
-    → Raised o c.loop-f.work c.loop-f.head c.loop-f.f.count c.loop-f.f.lacking c.loop-f.r.best c.loop-f.r.low c.if-f-gt0.level c.loop-f.expanded
-raise c w o s =
-    turn_raised s (elim c.if-f-gt0.branch [
+-- the level to which it rises: the least at which a node waits, if any does
+rise : (c : Joined-f-gt0)
+    → LowestFrom c.loop-f.head c.loop-f.level c.if-f-gt0.level ⊎ ((c.loop-f.f.count ≤ 0) × (c.if-f-gt0.level ≡ c.loop-f.level))
+rise c =
+    elim c.if-f-gt0.branch [
       then-f-gt0 q ↦ inl (rw q.level-is q.lowest-level.ensures)
     | else-f-gt0 q ↦ inr (q.if-f-gt0.false, q.level-is)
-    ])
-
-raised : (c : Joined-f-gt0) → Raised (over (at_loop_f c)) c.loop-f.work c.loop-f.head c.loop-f.f.count
-    c.loop-f.f.lacking c.loop-f.r.best c.loop-f.r.low c.if-f-gt0.level c.loop-f.expanded
-raised c = raise c _ (over (at_loop_f c)) (state (at_loop_f c))
+    ]
 
 -- the least key is a number of 64 bits
 top : (c : After-done) → entry_at (length c.args.kind.now) c.loop-f.work 1 ≤ far
@@ -100,27 +94,27 @@ pub bounds-work-n : goal.bounds-work-n
 bounds-work-n c = let l = turn-long (state (goal.at.bounds-work-n c).At-loop-f) in omega arith
 
 pub least_lacking-coming-requires : goal.least_lacking-coming-requires
-least_lacking-coming-requires c = turn_low (raised (goal.at.least_lacking-coming-requires c).Joined-f-gt0).turning
+least_lacking-coming-requires c = turn_low (turn_raised (state (goal.at.least_lacking-coming-requires c).At-loop-f) (rise (goal.at.least_lacking-coming-requires c).Joined-f-gt0)).turning
 
 pub shape_of-work-then-done : goal.shape_of-work-then-done
 shape_of-work-then-done c = (turn-long (state (goal.at.shape_of-work-then-done c).At-loop-f)).0
 
 pub returns-then-done : goal.returns-then-done
 returns-then-done c =
-    turn-ends (raised (goal.at.returns-then-done c).Joined-f-gt0).turning c.least_lacking-coming.ensures (top (goal.at.returns-then-done c).After-done) (c.done.ensures.ends c.if-done.true)
+    turn-ends (turn_raised (state (goal.at.returns-then-done c).At-loop-f) (rise (goal.at.returns-then-done c).Joined-f-gt0)).turning c.least_lacking-coming.ensures (top (goal.at.returns-then-done c).After-done) (c.done.ensures.ends c.if-done.true)
 
 pub overflow_add-expanded : goal.overflow_add-expanded
 overflow_add-expanded c = let s = state (goal.at.overflow_add-expanded c).At-loop-f in let l = turn-long s in omega (arith, turn_count_lem s)
 
 pub expand_next-r-requires : goal.expand_next-r-requires
 expand_next-r-requires c =
-    expands-ready (raised (goal.at.expand_next-r-requires c).Joined-f-gt0).turning c.least_lacking-coming.ensures (top (goal.at.expand_next-r-requires c).After-done) (c.done.ensures.goes c.if-done.false) c.if-least-coming.true
+    expands-ready (turn_raised (state (goal.at.expand_next-r-requires c).At-loop-f) (rise (goal.at.expand_next-r-requires c).Joined-f-gt0)).turning c.least_lacking-coming.ensures (top (goal.at.expand_next-r-requires c).After-done) (c.done.ensures.goes c.if-done.false) c.if-least-coming.true
 
 pub loop-f-preserved-then-least-coming : goal.loop-f-preserved-then-least-coming
 loop-f-preserved-then-least-coming c =
     let x = c.expand_next-r.ensures in
     λ w o s.
-    turn-expands (raise (goal.at.loop-f-preserved-then-least-coming c).Joined-f-gt0 w o (c.loop-f.invariant w o s)).turning c.least_lacking-coming.ensures (top (goal.at.loop-f-preserved-then-least-coming c).After-done) (c.done.ensures.goes c.if-done.false)
+    turn-expands (turn_raised (c.loop-f.invariant w o s) (rise (goal.at.loop-f-preserved-then-least-coming c).Joined-f-gt0)).turning c.least_lacking-coming.ensures (top (goal.at.loop-f-preserved-then-least-coming c).After-done) (c.done.ensures.goes c.if-done.false)
     c.if-least-coming.true x.0 x.1 x.2
 
 pub loop-f-smaller-then-least-coming : goal.loop-f-smaller-then-least-coming
@@ -128,7 +122,7 @@ loop-f-smaller-then-least-coming c =
     let n = length c.args.kind.now in
     let fewer = turn_count_lem (loop-f-preserved-then-least-coming c c.args.work.now (over (goal.at.loop-f-smaller-then-least-coming c).At-loop-f) (begun (goal.at.loop-f-smaller-then-least-coming c).At-loop-f)) in
     falls_expanding n c.loop-f.expanded c.loop-f.f.count fewer
-    (same_blanks (raised (goal.at.loop-f-smaller-then-least-coming c).Joined-f-gt0).turning c.least_lacking-coming.ensures (top (goal.at.loop-f-smaller-then-least-coming c).After-done) (c.done.ensures.goes c.if-done.false) c.if-least-coming.true
+    (same_blanks (turn_raised (state (goal.at.loop-f-smaller-then-least-coming c).At-loop-f) (rise (goal.at.loop-f-smaller-then-least-coming c).Joined-f-gt0)).turning c.least_lacking-coming.ensures (top (goal.at.loop-f-smaller-then-least-coming c).After-done) (c.done.ensures.goes c.if-done.false) c.if-least-coming.true
     c.expand_next-r.ensures.0)
 
 pub slice_bounds-spread_next-end : goal.slice_bounds-spread_next-end
@@ -136,16 +130,16 @@ slice_bounds-spread_next-end c = sym (turn-heads (state (goal.at.slice_bounds-sp
 
 pub spread_next-f-requires : goal.spread_next-f-requires
 spread_next-f-requires c =
-    spreads-ready (raised (goal.at.spread_next-f-requires c).Joined-f-gt0) c.least_lacking-coming.ensures (top (goal.at.spread_next-f-requires c).After-done) (c.done.ensures.goes c.if-done.false) c.if-least-coming.false
+    spreads-ready (turn_raised (state (goal.at.spread_next-f-requires c).At-loop-f) (rise (goal.at.spread_next-f-requires c).Joined-f-gt0)) c.least_lacking-coming.ensures (top (goal.at.spread_next-f-requires c).After-done) (c.done.ensures.goes c.if-done.false) c.if-least-coming.false
 
 pub loop-f-preserved : goal.loop-f-preserved
 loop-f-preserved c =
     let x = c.spread_next-f.ensures in
-    λ w o s. turn-spreads (raise (goal.at.loop-f-preserved c).Joined-f-gt0 w o (c.loop-f.invariant w o s)).turning x.0 x.1
+    λ w o s. turn-spreads (turn_raised (c.loop-f.invariant w o s) (rise (goal.at.loop-f-preserved c).Joined-f-gt0)).turning x.0 x.1
 
 pub loop-f-smaller : goal.loop-f-smaller
 loop-f-smaller c =
-    falls_spreading (length c.args.kind.now) c.loop-f.expanded (spreading_falls (raised (goal.at.loop-f-smaller c).Joined-f-gt0).turning c.spread_next-f.ensures.0)
+    falls_spreading (length c.args.kind.now) c.loop-f.expanded (spreading_falls (turn_raised (state (goal.at.loop-f-smaller c).At-loop-f) (rise (goal.at.loop-f-smaller c).Joined-f-gt0)).turning c.spread_next-f.ensures.0)
 
 pub scale_of-scale-requires : goal.scale_of-scale-requires
 scale_of-scale-requires c = tt
