@@ -1,7 +1,6 @@
 -- `numbers::marks_sound` meets its contract. The loop's invariant: while the flag is set every entry passed is within its bounds, and where it is cleared one is not.
 -- Assumes nothing.
 use mathlib.Core.Logic.{inl, inr}
-use Prim.Native.Nat.{◌-◌}
 use lib.Dec.{leb}
 use lib.ListN.{get_or}
 use Rattle.search.proofs.PassLaws.{passing-none, passing-all, short_fails, bounded-more}
