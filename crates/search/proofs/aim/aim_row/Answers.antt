@@ -85,11 +85,11 @@ loop-e-preserved c =
     let to = c.row_place-to.ensures in
     let more = c.loop-e-test.true in
     elim c.if-v-n.branch [
-      then-v-n+then-d-work w ↦
+      | then-v-n+then-d-work w ↦
           let made = w.aim-r.ensures in
           row_as w.work-is w.r-is (aim_row-more ready inv to more w.if-v-n.true w.clamped_price-p.ensures.0 made.0 made.1 made.2)
-    | then-v-n+else-d-work w ↦ row_as w.work-is w.r-is (aim_row-nearer ready inv to more (clamped-pos _ _ _ _) w.if-d-work.false)
-    | else-v-n w ↦ row_as w.work-is w.r-is (aim_row-beyond ready inv to more w.if-v-n.false)
+      | then-v-n+else-d-work w ↦ row_as w.work-is w.r-is (aim_row-nearer ready inv to more (clamped-pos _ _ _ _) w.if-d-work.false)
+      | else-v-n w ↦ row_as w.work-is w.r-is (aim_row-beyond ready inv to more w.if-v-n.false)
     ]
 
 pub shape_of-work : goal.shape_of-work

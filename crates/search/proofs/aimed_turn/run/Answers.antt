@@ -46,8 +46,8 @@ rise : (c : Joined-f-gt0)
     → LowestFrom c.loop-f.head c.loop-f.level c.if-f-gt0.level ⊎ ((c.loop-f.f.count ≤ 0) × (c.if-f-gt0.level ≡ c.loop-f.level))
 rise c =
     elim c.if-f-gt0.branch [
-      then-f-gt0 q ↦ inl (rw q.level-is q.lowest-level.ensures)
-    | else-f-gt0 q ↦ inr (q.if-f-gt0.false, q.level-is)
+      | then-f-gt0 q ↦ inl (rw q.level-is q.lowest-level.ensures)
+      | else-f-gt0 q ↦ inr (q.if-f-gt0.false, q.level-is)
     ]
 
 -- the least key is a number of 64 bits

@@ -62,7 +62,7 @@ pub loop-e-preserved : goal.loop-e-preserved
 loop-e-preserved c =
     let inv = c.loop-e.invariant in
     elim c.if-u-n.branch [
-      then-u-n+then-work-n w ↦
+      | then-u-n+then-work-n w ↦
           let h = w.if-u-n.true in
           let bare = w.if-work-n.true in
           let made = w.give-f.ensures in
@@ -70,8 +70,8 @@ loop-e-preserved c =
             λ l. row_more (inv.0 l) c.row_place-to.ensures c.loop-e-test.true (small (goal.at.loop-e-preserved c).At-loop-e) h (base_light _ _) bare made.0 made.1,
             lacking_is h bare (small (goal.at.loop-e-preserved c).At-loop-e) made.0 inv.1 made.2,
           )
-    | then-u-n+else-work-n w ↦ rw (w.work-is, w.head-is, w.f-is) (λ l. row_skip (inv.0 l) (λ h b. w.if-work-n.false b), inv.1)
-    | else-u-n w ↦ rw (w.work-is, w.head-is, w.f-is) (λ l. row_skip (inv.0 l) (λ h b. omega (arith, w.if-u-n.false)), inv.1)
+      | then-u-n+else-work-n w ↦ rw (w.work-is, w.head-is, w.f-is) (λ l. row_skip (inv.0 l) (λ h b. w.if-work-n.false b), inv.1)
+      | else-u-n w ↦ rw (w.work-is, w.head-is, w.f-is) (λ l. row_skip (inv.0 l) (λ h b. omega (arith, w.if-u-n.false)), inv.1)
     ]
 
 pub returns : goal.returns

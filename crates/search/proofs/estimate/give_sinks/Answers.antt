@@ -53,7 +53,7 @@ pub loop-i-preserved : goal.loop-i-preserved
 loop-i-preserved c =
     let inv = c.loop-i.invariant in
     elim c.if-s-n.branch [
-      then-s-n+then-in_tree-s-ne1+then-work-n w ↦
+      | then-s-n+then-in_tree-s-ne1+then-work-n w ↦
           let h = w.if-s-n.true in
           let out = w.if-in_tree-s-ne1.true in
           let bare = w.if-work-n.true in
@@ -62,14 +62,14 @@ loop-i-preserved c =
             λ sources. sinks-more (inv.0 sources) c.loop-i-test.true h out bare (base_light _ _) (c.requires.12 _ h out) made.0 made.1,
             lacking_is h bare (omega arith) made.0 inv.1 made.2,
           )
-    | then-s-n+then-in_tree-s-ne1+else-work-n w ↦
+      | then-s-n+then-in_tree-s-ne1+else-work-n w ↦
           rw (w.work-is, w.head-is, w.f-is) (λ sources. sinks_passed (inv.0 sources) (λ h o. stands_zero (inv.0 sources) _ h w.if-work-n.false), inv.1)
-    | then-s-n+else-in_tree-s-ne1 w ↦
+      | then-s-n+else-in_tree-s-ne1 w ↦
           rw (w.work-is, w.head-is, w.f-is) (
             λ sources. sinks_passed (inv.0 sources) (λ h o. absurd (true≢false (sym (in_the_tree _ _ w.if-in_tree-s-ne1.false) ∙ o))),
             inv.1,
           )
-    | else-s-n w ↦
+      | else-s-n w ↦
           rw (w.work-is, w.head-is, w.f-is) (λ sources. sinks_passed (inv.0 sources) (λ h o. absurd (omega (arith, w.if-s-n.false))), inv.1)
     ]
 

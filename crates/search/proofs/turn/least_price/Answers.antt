@@ -31,12 +31,12 @@ pub loop-i-preserved : goal.loop-i-preserved
 loop-i-preserved c =
     let i = c.loop-i.invariant in
     elim c.if-s-n.branch [
-      then-s-n+then-work-s+then-p-least w ↦
+      | then-s-n+then-work-s+then-p-least w ↦
           rw w.least-is (least_more i (let l = w.if-p-least.true in omega arith) (λ h g. let e = w.clamped_price-p.ensures.0 in omega arith))
-    | then-s-n+then-work-s+else-p-least w ↦
+      | then-s-n+then-work-s+else-p-least w ↦
           rw w.least-is (least_more i (omega arith) (λ h g. let e = w.clamped_price-p.ensures.0 in let l = w.if-p-least.false in omega arith))
-    | then-s-n+else-work-s w ↦ rw w.least-is (least_more i (omega arith) (λ h g. absurd (w.if-work-s.false g)))
-    | else-s-n w ↦ rw w.least-is (least_more i (omega arith) (λ h g. let l = w.if-s-n.false in absurd (omega arith)))
+      | then-s-n+else-work-s w ↦ rw w.least-is (least_more i (omega arith) (λ h g. absurd (w.if-work-s.false g)))
+      | else-s-n w ↦ rw w.least-is (least_more i (omega arith) (λ h g. let l = w.if-s-n.false in absurd (omega arith)))
     ]
 
 pub returns : goal.returns

@@ -40,9 +40,9 @@ loop-i-preserved c =
     let i = c.loop-i.invariant.1 in (
       omega arith,
       elim c.if-s-n.branch [
-        then-s-n+then-work-s w ↦ rw w.work-is (goals_store i c.requires.1 w.if-s-n.true w.if-work-s.true)
-      | then-s-n+else-work-s w ↦ rw w.work-is (goals_other i w.if-work-s.false)
-      | else-s-n w ↦ rw w.work-is (goals-beyond i w.if-s-n.false)
+        | then-s-n+then-work-s w ↦ rw w.work-is (goals_store i c.requires.1 w.if-s-n.true w.if-work-s.true)
+        | then-s-n+else-work-s w ↦ rw w.work-is (goals_other i w.if-work-s.false)
+        | else-s-n w ↦ rw w.work-is (goals-beyond i w.if-s-n.false)
       ],
     )
 
