@@ -1,6 +1,5 @@
 -- `search::aim::aim_row` meets its contract. The invariant: the row has been looked at up to place e, and r has the least distances. The measure is what is left of the row.
 -- Assumes nothing.
-use Prim.Native.Nat.{◌-◌}
 use native.Mathlib.Omega.{arith}
 use Rattle.price.proofs.TimedLaws.{weighed-low}
 use Rattle.search.proofs.ClampedLaws.{clamped-pos}
