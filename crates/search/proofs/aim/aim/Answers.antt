@@ -1,10 +1,7 @@
 -- `search::aim::aim` meets its contract: each return is one of the four things that looking at an edge can do, and keeps the least distances.
 -- Assumes nothing.
-use mathlib.Core.Bool.{not}
-use Rattle.std.proofs.Common.{ap}
 use mathlib.Core.Path.{refl, sym, ◌∙◌}
 use native.Mathlib.Omega.{arith}
-use borrow.Author.Tests.{not-true, not-false}
 use Rattle.search.specs.Aiming.{over_unlisted, over-shorter, over_lower, over-kept}
 use Rattle.search.proofs.aim.BestLaws.{best_pred, low-pred}
 use Rattle.search.proofs.aim.aim.Goals.{else-old-d-2, then-old-d-2+else-work-n}

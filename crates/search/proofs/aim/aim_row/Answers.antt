@@ -1,6 +1,5 @@
 -- `search::aim::aim_row` meets its contract. The invariant: the row has been looked at up to place e, and r has the least distances. The measure is what is left of the row.
 -- Assumes nothing.
-use Prim.Native.Nat.{◌-◌}
 use native.Mathlib.Omega.{arith}
 use Rattle.price.proofs.TimedLaws.{weighed-low}
 use Rattle.search.proofs.ClampedLaws.{clamped-pos}
@@ -60,7 +59,13 @@ aim-r-requires c =
     let p = c.clamped_price-p.ensures.1 in
     let ready = c.requires.3 in
     let to = c.row_place-to.ensures in
-    let more = c.loop-e-test.true in record { ready = (ready.node, c.if-v-n.true, row_room ready c.loop-e.invariant to, c.loop-e.invariant.some.queue, c.requires.2, aim_row-sum ready c.loop-e.invariant to more (omega arith)); back_lent = aim_row-fits ready c.loop-e.invariant to more c.if-v-n.true (omega arith) }
+    let inv = c.loop-e.invariant in
+    let more = c.loop-e-test.true in
+    record {
+      ready =
+          (ready.node, c.if-v-n.true, row_room ready inv to, inv.some.queue, c.requires.2, aim_row-sum ready inv to more (omega arith));
+      back_lent = aim_row-fits ready inv to more c.if-v-n.true (omega arith);
+    }
 
 pub overflow_add-e : goal.overflow_add-e
 overflow_add-e c =

@@ -4,7 +4,7 @@
 use mathlib.Core.List.{List}
 use mathlib.Core.Logic.{◌⊎◌, inl, inr}
 use mathlib.Core.Path.{◌≡◌, refl, sym}
-use Prim.Native.Nat.{ℕ, ◌+◌, ◌-◌, ◌≤◌}
+use Prim.Native.Nat.{ℕ, ◌+◌, ◌≤◌}
 use native.Mathlib.Omega.{arith}
 use lib.ListN.{length, get_or-replicate}
 use Rattle.search.specs.Distance.{far}
@@ -12,7 +12,7 @@ use Rattle.search.specs.Turn.{weighed_congestion}
 use Rattle.search.specs.Layout.{entry_at}
 use Rattle.search.specs.Buckets.{LowestFrom}
 use Rattle.search.proofs.aimed_turn.AimStart.{started_sized, started_queue, started_lacking, started_out}
-use Rattle.search.proofs.aimed_turn.AimRun.{TurnOver, Turning, Raised, turn-begins, turn-long, turn_count_lem, turn_low, turn-heads, level-ready, turn_raised, turn-ends, expands-ready, turn-expands, same_blanks, spreads-ready, turn-spreads, spreading_falls, falls_expanding, falls_spreading}
+use Rattle.search.proofs.aimed_turn.AimRun.{TurnOver, Turning, turn-begins, turn-long, turn_count_lem, turn_low, turn-heads, level-ready, turn_raised, turn-ends, expands-ready, turn-expands, same_blanks, spreads-ready, turn-spreads, spreading_falls, falls_expanding, falls_spreading}
 use Rattle.search.proofs.aimed_turn.run.Goals.{After-done, At-loop-f, Joined-f-gt0, then-f-gt0, else-f-gt0}
 use Rattle.search.proofs.aimed_turn.run.Goals as goal
 
@@ -79,67 +79,98 @@ pub loop-f-init : goal.loop-f-init
 loop-f-init c = λ w o s. s
 
 pub slice_bounds-lowest-end : goal.slice_bounds-lowest-end
-slice_bounds-lowest-end c = sym (turn-heads (state (goal.at.slice_bounds-lowest-end c).At-loop-f))
+slice_bounds-lowest-end c =
+    let at = goal.at.slice_bounds-lowest-end c in
+    sym (turn-heads (state at.At-loop-f))
 
 pub lowest-level-requires : goal.lowest-level-requires
-lowest-level-requires c = level-ready (state (goal.at.lowest-level-requires c).At-loop-f) c.if-f-gt0.true
+lowest-level-requires c =
+    let at = goal.at.lowest-level-requires c in
+    level-ready (state at.At-loop-f) c.if-f-gt0.true
 
 pub overflow_add-least : goal.overflow_add-least
-overflow_add-least c = let l = turn-long (state (goal.at.overflow_add-least c).At-loop-f) in omega arith
+overflow_add-least c =
+    let at = goal.at.overflow_add-least c in
+    let l = turn-long (state at.At-loop-f) in omega arith
 
 pub offset_bounds-work-n : goal.offset_bounds-work-n
-offset_bounds-work-n c = let l = turn-long (state (goal.at.offset_bounds-work-n c).At-loop-f) in omega arith
+offset_bounds-work-n c =
+    let at = goal.at.offset_bounds-work-n c in
+    let l = turn-long (state at.At-loop-f) in omega arith
 
 pub bounds-work-n : goal.bounds-work-n
-bounds-work-n c = let l = turn-long (state (goal.at.bounds-work-n c).At-loop-f) in omega arith
+bounds-work-n c =
+    let at = goal.at.bounds-work-n c in
+    let l = turn-long (state at.At-loop-f) in omega arith
 
 pub least_lacking-coming-requires : goal.least_lacking-coming-requires
-least_lacking-coming-requires c = turn_low (turn_raised (state (goal.at.least_lacking-coming-requires c).At-loop-f) (rise (goal.at.least_lacking-coming-requires c).Joined-f-gt0)).turning
+least_lacking-coming-requires c =
+    let at = goal.at.least_lacking-coming-requires c in
+    let raised = turn_raised (state at.At-loop-f) (rise at.Joined-f-gt0) in
+    turn_low raised.turning
 
 pub shape_of-work-then-done : goal.shape_of-work-then-done
-shape_of-work-then-done c = (turn-long (state (goal.at.shape_of-work-then-done c).At-loop-f)).0
+shape_of-work-then-done c =
+    let at = goal.at.shape_of-work-then-done c in
+    (turn-long (state at.At-loop-f)).0
 
 pub returns-then-done : goal.returns-then-done
 returns-then-done c =
-    turn-ends (turn_raised (state (goal.at.returns-then-done c).At-loop-f) (rise (goal.at.returns-then-done c).Joined-f-gt0)).turning c.least_lacking-coming.ensures (top (goal.at.returns-then-done c).After-done) (c.done.ensures.ends c.if-done.true)
+    let at = goal.at.returns-then-done c in
+    let raised = turn_raised (state at.At-loop-f) (rise at.Joined-f-gt0) in
+    turn-ends raised.turning c.least_lacking-coming.ensures (top at.After-done) (c.done.ensures.ends c.if-done.true)
 
 pub overflow_add-expanded : goal.overflow_add-expanded
-overflow_add-expanded c = let s = state (goal.at.overflow_add-expanded c).At-loop-f in let l = turn-long s in omega (arith, turn_count_lem s)
+overflow_add-expanded c =
+    let at = goal.at.overflow_add-expanded c in
+    let s = state at.At-loop-f in let l = turn-long s in omega (arith, turn_count_lem s)
 
 pub expand_next-r-requires : goal.expand_next-r-requires
 expand_next-r-requires c =
-    expands-ready (turn_raised (state (goal.at.expand_next-r-requires c).At-loop-f) (rise (goal.at.expand_next-r-requires c).Joined-f-gt0)).turning c.least_lacking-coming.ensures (top (goal.at.expand_next-r-requires c).After-done) (c.done.ensures.goes c.if-done.false) c.if-least-coming.true
+    let at = goal.at.expand_next-r-requires c in
+    let raised = turn_raised (state at.At-loop-f) (rise at.Joined-f-gt0) in
+    expands-ready raised.turning c.least_lacking-coming.ensures (top at.After-done) (c.done.ensures.goes c.if-done.false) c.if-least-coming.true
 
 pub loop-f-preserved-then-least-coming : goal.loop-f-preserved-then-least-coming
 loop-f-preserved-then-least-coming c =
+    let at = goal.at.loop-f-preserved-then-least-coming c in
     let x = c.expand_next-r.ensures in
     λ w o s.
-    turn-expands (turn_raised (c.loop-f.invariant w o s) (rise (goal.at.loop-f-preserved-then-least-coming c).Joined-f-gt0)).turning c.least_lacking-coming.ensures (top (goal.at.loop-f-preserved-then-least-coming c).After-done) (c.done.ensures.goes c.if-done.false)
+    turn-expands (turn_raised (c.loop-f.invariant w o s) (rise at.Joined-f-gt0)).turning c.least_lacking-coming.ensures (top at.After-done) (c.done.ensures.goes c.if-done.false)
     c.if-least-coming.true x.0 x.1 x.2
 
 pub loop-f-smaller-then-least-coming : goal.loop-f-smaller-then-least-coming
 loop-f-smaller-then-least-coming c =
+    let at = goal.at.loop-f-smaller-then-least-coming c in
+    let raised = turn_raised (state at.At-loop-f) (rise at.Joined-f-gt0) in
     let n = length c.args.kind.now in
-    let fewer = turn_count_lem (loop-f-preserved-then-least-coming c c.args.work.now (over (goal.at.loop-f-smaller-then-least-coming c).At-loop-f) (begun (goal.at.loop-f-smaller-then-least-coming c).At-loop-f)) in
+    let fewer = turn_count_lem (loop-f-preserved-then-least-coming c c.args.work.now (over at.At-loop-f) (begun at.At-loop-f)) in
     falls_expanding n c.loop-f.expanded c.loop-f.f.count fewer
-    (same_blanks (turn_raised (state (goal.at.loop-f-smaller-then-least-coming c).At-loop-f) (rise (goal.at.loop-f-smaller-then-least-coming c).Joined-f-gt0)).turning c.least_lacking-coming.ensures (top (goal.at.loop-f-smaller-then-least-coming c).After-done) (c.done.ensures.goes c.if-done.false) c.if-least-coming.true
+    (same_blanks raised.turning c.least_lacking-coming.ensures (top at.After-done) (c.done.ensures.goes c.if-done.false) c.if-least-coming.true
     c.expand_next-r.ensures.0)
 
 pub slice_bounds-spread_next-end : goal.slice_bounds-spread_next-end
-slice_bounds-spread_next-end c = sym (turn-heads (state (goal.at.slice_bounds-spread_next-end c).At-loop-f))
+slice_bounds-spread_next-end c =
+    let at = goal.at.slice_bounds-spread_next-end c in
+    sym (turn-heads (state at.At-loop-f))
 
 pub spread_next-f-requires : goal.spread_next-f-requires
 spread_next-f-requires c =
-    spreads-ready (turn_raised (state (goal.at.spread_next-f-requires c).At-loop-f) (rise (goal.at.spread_next-f-requires c).Joined-f-gt0)) c.least_lacking-coming.ensures (top (goal.at.spread_next-f-requires c).After-done) (c.done.ensures.goes c.if-done.false) c.if-least-coming.false
+    let at = goal.at.spread_next-f-requires c in
+    let raised = turn_raised (state at.At-loop-f) (rise at.Joined-f-gt0) in
+    spreads-ready raised c.least_lacking-coming.ensures (top at.After-done) (c.done.ensures.goes c.if-done.false) c.if-least-coming.false
 
 pub loop-f-preserved : goal.loop-f-preserved
 loop-f-preserved c =
+    let at = goal.at.loop-f-preserved c in
     let x = c.spread_next-f.ensures in
-    λ w o s. turn-spreads (turn_raised (c.loop-f.invariant w o s) (rise (goal.at.loop-f-preserved c).Joined-f-gt0)).turning x.0 x.1
+    λ w o s. turn-spreads (turn_raised (c.loop-f.invariant w o s) (rise at.Joined-f-gt0)).turning x.0 x.1
 
 pub loop-f-smaller : goal.loop-f-smaller
 loop-f-smaller c =
-    falls_spreading (length c.args.kind.now) c.loop-f.expanded (spreading_falls (turn_raised (state (goal.at.loop-f-smaller c).At-loop-f) (rise (goal.at.loop-f-smaller c).Joined-f-gt0)).turning c.spread_next-f.ensures.0)
+    let at = goal.at.loop-f-smaller c in
+    let raised = turn_raised (state at.At-loop-f) (rise at.Joined-f-gt0) in
+    falls_spreading (length c.args.kind.now) c.loop-f.expanded (spreading_falls raised.turning c.spread_next-f.ensures.0)
 
 pub scale_of-scale-requires : goal.scale_of-scale-requires
 scale_of-scale-requires c = tt

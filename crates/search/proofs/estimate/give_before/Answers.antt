@@ -1,7 +1,6 @@
 -- `search::estimate::give_before` meets its contract. The invariant: the places of v's row below e have been passed. The measure is how many are left.
 -- Assumes nothing.
-use mathlib.Core.Path.{sym, ◌∙◌}
-use Prim.Native.Nat.{◌-◌, ◌*◌, ◌≤◌, ◌<◌}
+use Prim.Native.Nat.{◌*◌, ◌≤◌, ◌<◌}
 use native.Mathlib.Omega.{arith}
 use lib.ListN.{length}
 use Rattle.price.specs.Bounds.{nodes_most}

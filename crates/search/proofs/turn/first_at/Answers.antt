@@ -1,6 +1,5 @@
 -- `search::turn::first_at` meets its contract. The invariant: no node listed before `place` has the label. The measure is what is left of the list.
 -- Assumes nothing.
-use Prim.Native.Nat.{◌-◌}
 use native.Mathlib.Omega.{arith}
 use Rattle.search.proofs.turn.TurnMarkLaws.{first_more}
 use Rattle.search.proofs.turn.first_at.Goals.{else-s-n, then-s-n+else-work-s}

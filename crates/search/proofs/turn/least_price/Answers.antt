@@ -1,6 +1,5 @@
 -- `search::turn::least_price` meets its contract. The invariant: `least` is at most the price of each goal listed before place i. The measure is what is left of the list.
 -- Assumes nothing.
-use Prim.Native.Nat.{◌-◌}
 use native.Mathlib.Omega.{arith}
 use Rattle.search.proofs.turn.TurnMarkLaws.{least-none, least_more, least-all}
 use Rattle.search.proofs.turn.least_price.Goals.{then-s-n+then-work-s+then-p-least, then-s-n+then-work-s+else-p-least, then-s-n+else-work-s, else-s-n}

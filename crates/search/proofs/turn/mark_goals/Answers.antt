@@ -1,6 +1,5 @@
 -- `search::turn::mark_goals` meets its contract. The invariant: the nodes listed before place i are marked. The measure is what is left of the list.
 -- Assumes nothing.
-use Prim.Native.Nat.{◌-◌}
 use native.Mathlib.Omega.{arith}
 use Rattle.search.proofs.turn.TurnMarkLaws.{goals-none, goals_store, goals_other, goals-beyond, goals-all}
 use Rattle.search.proofs.turn.mark_goals.Goals.{else-s-n, then-s-n+else-work-s, then-s-n+then-work-s}
