@@ -11,7 +11,6 @@ use Rattle.text.proofs.nets.read_nets.Given as goal
 abbrev pub invariant-loop-c : goal.invariant-loop-c
 invariant-loop-c l =
     Going l.timed l.kind l.nodes l.nets l.text (net_lines (length (drop l.from l.text)) l.timed l.kind l.nodes l.nets (net_lists [] [] [] []) l.first_line (drop l.from l.text)) l.c l.source l.first_sink l.sink l.criticality l.seen
-    × (length l.source ≡ length l.initial.source) × (length l.first_sink ≡ length l.initial.first_sink) × (length l.sink ≡ length l.initial.sink) × (length l.criticality ≡ length l.initial.criticality) × (length l.seen ≡ 4096)
 
 abbrev pub decreases-loop-c : goal.decreases-loop-c
 decreases-loop-c l =
