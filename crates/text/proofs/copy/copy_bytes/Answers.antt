@@ -11,8 +11,6 @@ loop-k-init c = (omega arith, copied_none _ _)
 pub loop-k-preserved : goal.loop-k-preserved
 loop-k-preserved c = (omega arith, copied_next _ _ _ _ c.loop-k.invariant.1 (omega arith) (omega arith))
 
-pub shape_of-to : goal.shape_of-to
-shape_of-to c = c.loop-k.invariant.1.same_length
 
 pub returns : goal.returns
 returns c = copied_all _ _ _ c.loop-k.k c.args.count c.loop-k.invariant.1 (omega arith)

@@ -15,8 +15,6 @@ loop-u-preserved c =
     let s = c.loop-u.invariant in
     (omega arith, omega arith, simp length-set s.2, rw s.3 (fill_more _ _ _ _ s.0 (omega arith)))
 
-pub shape_of-table : goal.shape_of-table
-shape_of-table c = c.loop-u.invariant.2
 
 pub returns : goal.returns
 returns c =
