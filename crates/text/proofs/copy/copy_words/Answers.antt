@@ -11,6 +11,5 @@ loop-k-init c = (omega arith, copied_none _ _)
 pub loop-k-preserved : goal.loop-k-preserved
 loop-k-preserved c = (omega arith, copied_next _ _ _ _ c.loop-k.invariant.1 (omega arith) (omega arith))
 
-
 pub returns : goal.returns
 returns c = copied_all _ _ _ c.loop-k.k c.args.count c.loop-k.invariant.1 (omega arith)

@@ -15,7 +15,6 @@ loop-u-preserved c =
     let s = c.loop-u.invariant in
     (omega arith, omega arith, simp length-set s.2, rw s.3 (fill_more _ _ _ _ s.0 (omega arith)))
 
-
 pub returns : goal.returns
 returns c =
     let end : c.loop-u.u ≡ c.args.to = omega arith in

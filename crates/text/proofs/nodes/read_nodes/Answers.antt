@@ -13,14 +13,8 @@ pub loop-v-preserved : goal.loop-v-preserved
 loop-v-preserved c =
     nodes-more c.requires.nodes_in_bounds c.loop-v.invariant c.loop-v-test.true c.in-Node.is c.node_line.ensures.value c.node_line.ensures.node_place
 
-
-
-
 pub returns-in-Refused : goal.returns-in-Refused
 returns-in-Refused c = record { delay_after = nodes_stop c.requires.nodes_in_bounds c.loop-v.invariant c.loop-v-test.true c.in-Refused.is c.node_line.ensures.value; lines_place = tt }
-
-
-
 
 pub returns : goal.returns
 returns c = record { delay_after = nodes-end c.requires.nodes_in_bounds c.loop-v.invariant c.loop-v-test.false; lines_place = (c.loop-v.invariant.at_most, c.loop-v.invariant.line-most) }
