@@ -1,7 +1,6 @@
 -- `text::nets::read_nets` meets its contract: the lines that are left give with the lists so far what all of them give.
 -- Assumes nothing.
 use mathlib.Core.List.{[]}
-use mathlib.Core.Path.{◌≡◌}
 use Prim.Native.Nat.{◌-◌}
 use lib.ListN.{length, drop}
 use Rattle.text.specs.JobText.{net_lists, net_lines}
