@@ -11,7 +11,7 @@ pub loop-c-init : goal.loop-c-init
 loop-c-init c =
     let a = c.args in
     going_first a.timed a.kind.now a.nodes a.nets a.text.now a.from a.first_line a.source.now a.first_sink.now a.sink.now a.criticality.now
-          (c.requires.from_in_bounds.0, c.requires.from_in_bounds.1, c.requires.from_in_bounds.2, c.requires.from_in_bounds.3) c.requires.nets_in_bounds
+    (c.requires.from_in_bounds.0, c.requires.from_in_bounds.1, c.requires.from_in_bounds.2, c.requires.from_in_bounds.3) c.requires.nets_in_bounds
 
 pub loop-c-smaller : goal.loop-c-smaller
 loop-c-smaller c =
