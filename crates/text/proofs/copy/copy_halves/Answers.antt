@@ -1,6 +1,5 @@
 -- `text::copy::copy_halves` meets its contract: after the turns up to k, k entries are copied.
 -- Assumes nothing.
-use Prim.Native.Nat.{◌-◌}
 use native.Mathlib.Omega.{arith}
 use Rattle.text.proofs.CopyLaws.{copied_none, copied_next, copied_all}
 use Rattle.text.proofs.copy.copy_halves.Goals as goal

@@ -1,7 +1,6 @@
 -- `edges::fill` meets its contract: after the turns up to u, the entries from `from` to below u are the value and the others as before.
 -- Assumes nothing.
 use mathlib.Core.Path.{◌≡◌, refl}
-use Prim.Native.Nat.{◌-◌}
 use native.Mathlib.Omega.{arith}
 use lib.ListN.{length-set}
 use Rattle.text.proofs.edges.EdgeLineLaws.{fill_none, fill_more}

@@ -1,11 +1,10 @@
 -- `edges::read_edges` meets its contract: between two lines the tables hold the edges read, and the lines that follow give the rest (`EdgesRead`).
 -- The measure: edges left.
 -- Assumes nothing.
-use mathlib.Core.Path.{◌∙◌}
 use mathlib.Core.List.{List}
 use Prim.Native.Nat.{ℕ, ◌+◌, ◌≤◌}
 use lib.ListN.{length, set, length-set}
-use Rattle.text.proofs.edges.EdgeLineLaws.{edges_none, edges_rows, edges_more, edges_stop, edges-last_rows, edges-end-long, edges-end}
+use Rattle.text.proofs.edges.EdgeLineLaws.{edges_none, edges_rows, edges_more, edges_stop, edges-last_rows, edges-end}
 use Rattle.text.proofs.edges.read_edges.Goals as goal
 
 pub loop-k-init : goal.loop-k-init

@@ -1,7 +1,5 @@
 -- `text::nets::read_nets` meets its contract: the lines that are left give with the lists so far what all of them give.
 -- Assumes nothing.
-use mathlib.Core.Path.{refl, ◌∙◌}
-use Prim.Native.Nat.{◌-◌}
 use native.Mathlib.Omega.{arith}
 use lib.Seq.{get_or-set_same}
 use Rattle.text.proofs.nets.NetLoopLaws.{going_first, going_later, going_more, going_stops, going_short, going_empty, going_done}

@@ -1,7 +1,6 @@
 -- `nodes::read_nodes` meets its contract: between two lines the tables hold the nodes read, and the lines that follow give the rest (`NodesRead`).
 -- The measure: nodes left.
 -- Assumes nothing.
-use Prim.Native.Nat.{◌-◌}
 use Rattle.text.proofs.nodes.NodeLineLaws.{nodes-none, nodes-more, nodes_stop, nodes-end}
 use Rattle.text.proofs.nodes.read_nodes.Goals as goal
 

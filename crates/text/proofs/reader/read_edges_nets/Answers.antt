@@ -9,7 +9,10 @@ read_nets-requires c =
     let edges = c.read_edges in
     let place = read_place c.args.text.now edges.result _ _ c.in-Read.is edges.ensures.lines_place in
     let room = c.requires.edge_room.1 in
-    let within = c.requires.counts_within.0 in record { from_in_bounds = (place.0, place.1, within.nodes_most_lem, within.nets_most_lem, c.requires.counts_within.3); nets_in_bounds = (omega (arith, room.sources-long, within.nets_most_lem), omega (arith, room.firsts-long, within.nets_most_lem), room.sinks-long, room.criticalities-long) }
+    let within = c.requires.counts_within.0 in record {
+      from_in_bounds = (place.0, place.1, within.nodes_most_lem, within.nets_most_lem, c.requires.counts_within.3);
+      nets_in_bounds = (omega (arith, room.sources-long, within.nets_most_lem), omega (arith, room.firsts-long, within.nets_most_lem), room.sinks-long, room.criticalities-long);
+    }
 
 pub returns-in-Read : goal.returns-in-Read
 returns-in-Read c =
