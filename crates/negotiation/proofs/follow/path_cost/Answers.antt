@@ -2,19 +2,14 @@
 -- Assumes nothing.
 use mathlib.Core.Bool.{not}
 use Rattle.std.proofs.Common.{ap}
-use mathlib.Core.Bool.{Bool}
 use mathlib.Core.List.{[]}
-use mathlib.Core.Path.{◌≡◌, sym, ◌∙◌}
-use Prim.Native.Nat.{ℕ, ◌+◌, ◌-◌, ◌<◌}
+use mathlib.Core.Path.{sym, ◌∙◌}
+use Prim.Native.Nat.{◌+◌, ◌<◌}
 use native.Mathlib.Omega.{arith}
-use lib.Dec.{ltb}
 use lib.ListN.{length, get_or}
-use Rattle.price.specs.Test.{choose}
-use Rattle.search.specs.Block.{block_of}
 use Rattle.search.specs.Turn.{congestion_of}
 use Rattle.search.proofs.PriceableLaws.{sound-graph}
 use Rattle.search.proofs.KeptLaws.{refused, passed}
-use Rattle.negotiation.specs.ResumeSteps.{step_passes}
 use Rattle.negotiation.proofs.follow.PassLoopLaws.{step_answer, price-block, pass_off, pass_out, pass_first, step_strays, step_node, cost-fits, step_on, pass_done, pass_marked}
 use Rattle.negotiation.proofs.follow.path_cost.Goals.{Else-not-step_passes}
 use Rattle.negotiation.proofs.follow.path_cost.Goals as goal

@@ -1,7 +1,6 @@
 -- `join::join_nets` meets its contract. The loop's invariant: the places of the nets passed stand first, and where each net's begin.
 -- Assumes nothing.
 use mathlib.Core.Path.{sym, ◌∙◌}
-use Prim.Native.Nat.{◌-◌}
 use native.Mathlib.Omega.{arith}
 use lib.ListN.{length-set}
 use Rattle.negotiation.proofs.JoiningLaws.{joining_none, joining_few, joining_room, joining_more, joining_all}

@@ -1,6 +1,5 @@
 -- `join::join_one` meets its contract. The loop's invariant: the places of the source's nets passed are taken.
 -- Assumes nothing.
-use Prim.Native.Nat.{◌-◌}
 use Rattle.std.proofs.Common.{rules}
 use Rattle.negotiation.proofs.JoiningLaws.{is_first, not_first, nets-none, placed_other, room-kept, nets-room, nets-more, nets-all}
 use Rattle.negotiation.proofs.join.join_one.Goals as goal

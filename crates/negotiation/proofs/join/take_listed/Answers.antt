@@ -1,6 +1,6 @@
 -- `join::take_listed` meets its contract. The loop's invariant: of every beginning the places passed are taken.
 -- Assumes nothing.
-use Prim.Native.Nat.{◌-◌, ◌<◌}
+use Prim.Native.Nat.{◌<◌}
 use native.Mathlib.Omega.{arith}
 use lib.ListN.{length, get_or}
 use Rattle.std.proofs.Common.{rules}

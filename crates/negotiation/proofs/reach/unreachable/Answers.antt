@@ -2,17 +2,16 @@
 -- Assumes nothing.
 use mathlib.Core.List.{List}
 use mathlib.Core.Path.{sym}
-use Prim.Native.Nat.{ℕ, ◌+◌, ◌-◌, ◌≤◌, ◌<◌}
+use Prim.Native.Nat.{ℕ, ◌≤◌}
 use native.Mathlib.Omega.{arith}
-use lib.ListN.{length, get_or, length-replicate}
+use lib.ListN.{length, length-replicate}
 use lib.Seq.{length-take-le}
 use borrow.Author.Count.{below_none}
 use Rattle.search.proofs.BlockLaws.{kinds-few}
 use Rattle.job.specs.Job.{Job, job_of}
-use Rattle.job.specs.declared.Terms.{Terms}
 use Rattle.negotiation.specs.Steps.{RoutableWith}
 use Rattle.negotiation.proofs.FloodLaws.{same_from_refl}
-use Rattle.negotiation.proofs.reach.TestedLaws.{Tested, tested-all, flood_asked, marks_fit, tested-same, sinks-asked, tested-found, tested-more}
+use Rattle.negotiation.proofs.reach.TestedLaws.{Tested, tested-all, flood_asked, tested-same, sinks-asked, tested-found, tested-more}
 use Rattle.negotiation.proofs.reach.unreachable.Goals as goal
 
 -- with the tables and terms of the precondition the lists are a job that can be routed
