@@ -11,7 +11,12 @@ loop-at-init c = walking_none _ _ _ _ c.requires.from_le_until.0 c.requires.from
 
 pub unmark_path-requires : goal.unmark_path-requires
 unmark_path-requires c =
-    let inv = c.loop-at.invariant in record { from_le_to = (omega arith, omega (arith, fits (goal.at.unmark_path-requires c).In-loop-at)); all_below = rw inv.done.long (record_nodes inv.rest c.loop-at-test.true inv.walk) }
+    let inv = c.loop-at.invariant in
+    let fits = record_fits inv.rest c.loop-at-test.true inv.walk in
+    record {
+      from_le_to = (omega arith, omega arith);
+      all_below = rw inv.done.long (record_nodes inv.rest c.loop-at-test.true inv.walk);
+    }
 
 pub bounds-log-at : goal.bounds-log-at
 bounds-log-at c = let fits = record_fits c.loop-at.invariant.rest c.loop-at-test.true c.loop-at.invariant.walk in omega arith
