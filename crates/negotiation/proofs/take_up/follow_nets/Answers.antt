@@ -88,23 +88,6 @@ follow_net-taken-requires c =
       omega arith,
     )
 
-pub shape_of-users-in_default : goal.shape_of-users-in_default
-shape_of-users-in_default c =
-    c.begin_net-turns.auto.users ∙ (nets-long _ (so_far (goal.at.shape_of-users-in_default c).At-loop-net)).0 ∙ sym (nets-long _ (nets-start false _ (opened (goal.at.shape_of-users-in_default c).At-loop-net))).0
-
-pub shape_of-in_tree-in_default : goal.shape_of-in_tree-in_default
-shape_of-in_tree-in_default c =
-    c.follow_net-taken.auto.in_tree ∙ c.begin_net-turns.auto.in_tree ∙ (nets-long _ (so_far (goal.at.shape_of-in_tree-in_default c).At-loop-net)).1
-    ∙ sym (nets-long _ (nets-start false _ (opened (goal.at.shape_of-in_tree-in_default c).At-loop-net))).1
-
-pub shape_of-tree_from-in_default : goal.shape_of-tree_from-in_default
-shape_of-tree_from-in_default c =
-    (nets-long _ (so_far (goal.at.shape_of-tree_from-in_default c).At-loop-net)).2 ∙ sym (nets-long _ (nets-start false _ (opened (goal.at.shape_of-tree_from-in_default c).At-loop-net))).2
-
-pub shape_of-tree_to-in_default : goal.shape_of-tree_to-in_default
-shape_of-tree_to-in_default c =
-    (nets-long _ (so_far (goal.at.shape_of-tree_to-in_default c).At-loop-net)).3 ∙ sym (nets-long _ (nets-start false _ (opened (goal.at.shape_of-tree_to-in_default c).At-loop-net))).3
-
 pub returns-in_default : goal.returns-in_default
 returns-in_default c = record {
   same_from = work-same (goal.at.returns-in_default c).After-follow_net-taken;
@@ -132,18 +115,6 @@ loop-net-preserved c =
       omega arith,
       work-same (goal.at.loop-net-preserved c).After-follow_net-taken,
     )
-
-pub shape_of-users : goal.shape_of-users
-shape_of-users c = (nets-long _ (so_far (goal.at.shape_of-users c).At-loop-net)).0 ∙ sym (nets-long _ (nets-start false _ (opened (goal.at.shape_of-users c).At-loop-net))).0
-
-pub shape_of-in_tree : goal.shape_of-in_tree
-shape_of-in_tree c = (nets-long _ (so_far (goal.at.shape_of-in_tree c).At-loop-net)).1 ∙ sym (nets-long _ (nets-start false _ (opened (goal.at.shape_of-in_tree c).At-loop-net))).1
-
-pub shape_of-tree_from : goal.shape_of-tree_from
-shape_of-tree_from c = (nets-long _ (so_far (goal.at.shape_of-tree_from c).At-loop-net)).2 ∙ sym (nets-long _ (nets-start false _ (opened (goal.at.shape_of-tree_from c).At-loop-net))).2
-
-pub shape_of-tree_to : goal.shape_of-tree_to
-shape_of-tree_to c = (nets-long _ (so_far (goal.at.shape_of-tree_to c).At-loop-net)).3 ∙ sym (nets-long _ (nets-start false _ (opened (goal.at.shape_of-tree_to c).At-loop-net))).3
 
 pub returns : goal.returns
 returns c = record { same_from = c.loop-net.invariant.2; nets_answered = λ terms p w o. nets-all _ (c.loop-net.invariant.0 _ _ w o) c.loop-net.invariant.1 c.loop-net-test.false }
