@@ -1,12 +1,10 @@
 -- `negotiation::audit` meets its contract: refusals 5, 15 and 6 by their tests, the rest by the answer of the joined nets.
 -- Assumes nothing.
-use mathlib.Core.List.{[], ◌∷◌}
 use mathlib.Core.Path.{◌≡◌, refl, sym, subst}
 use Prim.Native.Nat.{◌+◌}
 use native.Mathlib.Omega.{arith}
 use lib.ListN.{length, take}
 use lib.Seq.{length-take-le}
-use types.Run.{miss}
 use Rattle.job.specs.Job.{Job, job_of}
 use Rattle.job.specs.Join.{joined}
 use Rattle.negotiation.specs.Routable.{Routable}
@@ -53,9 +51,13 @@ module _ (c : After-joined_tables-count) where
 
 pub joined_tables-count-requires : goal.joined_tables-count-requires
 joined_tables-count-requires c =
-    let tables = given_joinable (listed (goal.at.joined_tables-count-requires c).In-Accepted) (passes (goal.at.joined_tables-count-requires c).In-Accepted) in
-    let few = (given_routable (listed (goal.at.joined_tables-count-requires c).In-Accepted) (passes (goal.at.joined_tables-count-requires c).In-Accepted)).nets-few in
-    (tables, ((omega arith, tables.sinks-few), (given_critical (listed (goal.at.joined_tables-count-requires c).In-Accepted) (passes (goal.at.joined_tables-count-requires c).In-Accepted) _ refl, tables.sinks-few)))
+    let at = (goal.at.joined_tables-count-requires c).In-Accepted in
+    let tables = given_joinable (listed at) (passes at) in
+    let few = (given_routable (listed at) (passes at)).nets-few in record {
+      joinable = tables;
+      source_in_bounds = (omega arith, tables.sinks-few);
+      criticality_len = (given_critical (listed at) (passes at) _ refl, tables.sinks-few);
+    }
 
 pub slice_bounds-audit_joined-end : goal.slice_bounds-audit_joined-end
 slice_bounds-audit_joined-end c = sym (length-take-le _ _ c.joined_tables-count.ensures.ends-within)
@@ -74,7 +76,7 @@ pub returns-in_default : goal.returns-in_default
 returns-in_default c = record {
   audited = audit_answered (job (goal.at.returns-in_default c).Start) c.args.used c.args.work.now c.args.log.now (audit_reply_of c.refused.result c.args.work.now)
       (audit_refused (job (goal.at.returns-in_default c).Start) c.args.used c.args.work.now c.args.log.now _ c.refusal_of-refusal.ensures
-      (λ q. miss (1 ∷ 2 ∷ 3 ∷ 4 ∷ 5 ∷ 6 ∷ 7 ∷ 8 ∷ []) 0 tt (rw q (goal.at.returns-in_default c).After-refusal_of-refusal c.in-Accepted.keys2)) c.refused.result c.refused.ensures);
+      c.in_default.not-Accepted c.refused.result c.refused.ensures);
 }
 
 pub returns : goal.returns

@@ -1,12 +1,10 @@
 -- `negotiation::routed_from` meets its contract: refusals 5, 15 and 6 by their tests, the rest by the answer of the joined nets.
 -- Assumes nothing.
-use mathlib.Core.List.{[], ◌∷◌}
 use mathlib.Core.Path.{◌≡◌, refl, sym, subst}
 use Prim.Native.Nat.{◌+◌}
 use native.Mathlib.Omega.{arith}
 use lib.ListN.{length, take}
 use lib.Seq.{length-take-le}
-use types.Run.{miss}
 use Rattle.job.specs.Job.{Job, job_of}
 use Rattle.job.specs.Join.{joined}
 use Rattle.negotiation.specs.Routable.{Routable}
@@ -52,9 +50,13 @@ module _ (c : After-joined_tables-count) where
 
 pub joined_tables-count-requires : goal.joined_tables-count-requires
 joined_tables-count-requires c =
-    let tables = given_joinable (listed (goal.at.joined_tables-count-requires c).In-Accepted) (passes (goal.at.joined_tables-count-requires c).In-Accepted) in
-    let few = (given_routable (listed (goal.at.joined_tables-count-requires c).In-Accepted) (passes (goal.at.joined_tables-count-requires c).In-Accepted)).nets-few in
-    (tables, ((omega arith, tables.sinks-few), (given_critical (listed (goal.at.joined_tables-count-requires c).In-Accepted) (passes (goal.at.joined_tables-count-requires c).In-Accepted) _ refl, tables.sinks-few)))
+    let at = (goal.at.joined_tables-count-requires c).In-Accepted in
+    let tables = given_joinable (listed at) (passes at) in
+    let few = (given_routable (listed at) (passes at)).nets-few in record {
+      joinable = tables;
+      source_in_bounds = (omega arith, tables.sinks-few);
+      criticality_len = (given_critical (listed at) (passes at) _ refl, tables.sinks-few);
+    }
 
 pub slice_bounds-route_joined-end : goal.slice_bounds-route_joined-end
 slice_bounds-route_joined-end c = sym (length-take-le _ _ c.joined_tables-count.ensures.ends-within)
@@ -70,7 +72,7 @@ route_joined-requires c =
     (subst Routable (sym (made-is (goal.at.route_joined-requires c).After-joined_tables-count)) (given_routable (job (goal.at.route_joined-requires c).Start) (passes (goal.at.route_joined-requires c).In-Accepted)), (passes (goal.at.route_joined-requires c).In-Accepted).enough)
 
 pub returns-in_default : goal.returns-in_default
-returns-in_default c = record { answers = job-refused c.args.start (job (goal.at.returns-in_default c).Start) _ _ _ c.refusal_of-refusal.ensures (λ q. miss (1 ∷ 2 ∷ 3 ∷ 4 ∷ 5 ∷ 6 ∷ 7 ∷ 8 ∷ []) 0 tt (rw q (goal.at.returns-in_default c).After-refusal_of-refusal c.in-Accepted.keys2)) _ c.refused.ensures; expanded = refused-counts c.args.aimed (joined (job (goal.at.returns-in_default c).Start)) _ c.refused.result _ c.refused.ensures }
+returns-in_default c = record { answers = job-refused c.args.start (job (goal.at.returns-in_default c).Start) _ _ _ c.refusal_of-refusal.ensures c.in_default.not-Accepted _ c.refused.ensures; expanded = refused-counts c.args.aimed (joined (job (goal.at.returns-in_default c).Start)) _ c.refused.result _ c.refused.ensures }
 
 pub returns : goal.returns
 returns c = record { answers = joined-answered c.args.start (job (goal.at.returns c).Start) _ _ _ c.refusal_of-refusal.ensures c.in-Accepted.is (made (goal.at.returns c).After-joined_tables-count) (made-is (goal.at.returns c).After-joined_tables-count) _ c.route_joined.ensures.answers; expanded = joined-counts (made (goal.at.returns c).After-joined_tables-count) (made-is (goal.at.returns c).After-joined_tables-count) _ _ _ _ c.route_joined.ensures.expanded }
