@@ -98,18 +98,18 @@ loop-e-preserved c =
       omega arith,
       omega arith,
       elim c.if-reached-v-eq0.branch [
-        then-reached-v-eq0 w ↦
-          rw w.new-is
-          (elim c.if-last-kind.branch [
-            then-last-kind h ↦ rw h.work-is (row_mark r.graph r.node i.0 c.loop-e-test.true i.2 w.if-reached-v-eq0.true)
-            | else-last-kind h ↦ absurd (not_full (goal.at.loop-e-preserved c).In-loop-e w.if-reached-v-eq0.true h.if-last-kind.false)
-          ])
+        | then-reached-v-eq0 w ↦
+            rw w.new-is
+            (elim c.if-last-kind.branch [
+              | then-last-kind h ↦ rw h.work-is (row_mark r.graph r.node i.0 c.loop-e-test.true i.2 w.if-reached-v-eq0.true)
+              | else-last-kind h ↦ absurd (not_full (goal.at.loop-e-preserved c).In-loop-e w.if-reached-v-eq0.true h.if-last-kind.false)
+            ])
         | else-reached-v-eq0 w ↦
-          rw (w.new-is, add-zero c.loop-e.last)
-          (elim c.if-last-kind.branch [
-            then-last-kind h ↦ rw h.work-is (row_behind r.graph r.node i.0 c.loop-e-test.true i.2 w.if-reached-v-eq0.false _ h.if-last-kind.true)
-            | else-last-kind h ↦ rw h.work-is (row_again r.graph r.node i.0 c.loop-e-test.true i.2 w.if-reached-v-eq0.false)
-          ])
+            rw (w.new-is, add-zero c.loop-e.last)
+            (elim c.if-last-kind.branch [
+              | then-last-kind h ↦ rw h.work-is (row_behind r.graph r.node i.0 c.loop-e-test.true i.2 w.if-reached-v-eq0.false _ h.if-last-kind.true)
+              | else-last-kind h ↦ rw h.work-is (row_again r.graph r.node i.0 c.loop-e-test.true i.2 w.if-reached-v-eq0.false)
+            ])
       ],
     )
 

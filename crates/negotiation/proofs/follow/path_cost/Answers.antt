@@ -85,8 +85,11 @@ shape_of-in_tree-then-not-step_passes c =
     c.loop-k.invariant.marks_long ∙ sym c.requires.turn.marks_long
 
 pub returns-then-not-step_passes : goal.returns-then-not-step_passes
-returns-then-not-step_passes c = record { value = step_strays c.requires c.loop-k.invariant c.loop-k-test.true 
-      (refused (step_answer _ _ _ _ _ _ _ _ (c.loop-k.k + 1) c.args.to c.step_passes.ensures c.last_mark-last.ensures) (ap not c.if-not-step_passes.true)); path_marked = tt }
+returns-then-not-step_passes c = record {
+  value = step_strays c.requires c.loop-k.invariant c.loop-k-test.true
+      (refused (step_answer _ _ _ _ _ _ _ _ (c.loop-k.k + 1) c.args.to c.step_passes.ensures c.last_mark-last.ensures) (ap not c.if-not-step_passes.true));
+  path_marked = tt;
+}
 
 pub node_price-cost-requires : goal.node_price-cost-requires
 node_price-cost-requires c = c.requires.turn.prices _ (reached c)

@@ -42,7 +42,7 @@ loop-p-preserved c =
     let inv = c.loop-p.invariant in
     let more = c.loop-p-test.true in
     elim c.if-seen-s.branch [
-      then-seen-s w ↦ rw (w.count-is, w.seen-is, w.places-is) (taking-more inv more (node turn) w.if-seen-s.true (room turn))
+      | then-seen-s w ↦ rw (w.count-is, w.seen-is, w.places-is) (taking-more inv more (node turn) w.if-seen-s.true (room turn))
       | else-seen-s w ↦ rw (w.count-is, w.seen-is, w.places-is) (taking-kept inv more (node turn) w.if-seen-s.false)
     ]
 
