@@ -1,10 +1,7 @@
 -- `negotiation::turns::one_turn` meets its contract: without sinks no turn is made; nothing is refused, so the search's answer is the turn, and where its record fits it is logged and marked.
 -- Assumes nothing.
-use mathlib.Core.List.{[], ◌∷◌}
 use native.Mathlib.Omega.{arith}
-use types.Run.{miss}
 use Rattle.negotiation.proofs.turns.OneTurnLaws.{turn-none, turn-joined, turn_other, turn-counts, turn_full, turn-logs}
-use Rattle.negotiation.proofs.turns.one_turn.Goals.{In-Joins-2}
 use Rattle.negotiation.proofs.turns.one_turn.Goals as goal
 
 pub returns-then-sinks-eq0 : goal.returns-then-sinks-eq0
@@ -38,12 +35,11 @@ mark_path-requires c =
     (j.long, j.nodes-below)
 
 pub turn_logged-requires : goal.turn_logged-requires
-turn_logged-requires c =
-    (
-      omega (arith, c.well_formed, c.requires.ready.within, c.requires.ready.few-turns),
-      omega (arith, c.well_formed, c.requires.ready.within),
-      turn-counts c.requires.ready c.found_path-found.ensures.1,
-    )
+turn_logged-requires c = (
+  omega (arith, c.well_formed, c.requires.ready.within, c.requires.ready.few-turns),
+  omega (arith, c.well_formed, c.requires.ready.within),
+  turn-counts c.requires.ready c.found_path-found.ensures.1,
+)
 
 pub returns : goal.returns
 returns c =
