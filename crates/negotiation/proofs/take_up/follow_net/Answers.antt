@@ -1,17 +1,16 @@
 -- `negotiation::take_up::follow_net` meets its contract: from any net that opens so, the turns made so far follow and so many more may be made, and the place is
 -- that of the first sink that the tree lacks (`TakeTurnLaws`). What is safe rests on the one that is asked for. A net without turns leaves all as it is.
 -- Assumes nothing.
-use mathlib.Core.List.{List, [], ◌∷◌}
+use mathlib.Core.List.{List}
 use mathlib.Core.Path.{◌≡◌, refl, ◌∙◌, ap}
-use Prim.Native.Nat.{ℕ, ◌-◌, ◌*◌, ◌≤◌, ◌<◌, ◌^◌, zero-le}
+use Prim.Native.Nat.{ℕ, ◌*◌, ◌≤◌, ◌<◌, ◌^◌, zero-le}
 use native.Mathlib.Nat.{add-zero}
 use native.Mathlib.Omega.{arith}
 use lib.ListN.{length, get_or}
-use types.Run.{miss}
 use Rattle.negotiation.specs.Steps.{SameFrom}
 use Rattle.negotiation.specs.TakeSteps.{SomeNet}
 use Rattle.negotiation.specs.declared.tariff.Tariff.{Tariff}
-use Rattle.negotiation.proofs.take_up.TakeTurnLaws.{some_of, missing-more, follow_start, part-order, part-within, part_small, part-below, follow_ready, follow_some, follow_out, follow_stopped, follow_more, follow_room, follow_on}
+use Rattle.negotiation.proofs.take_up.TakeTurnLaws.{some_of, missing-more, follow_start, part-order, part-within, part-below, follow_ready, follow_some, follow_out, follow_stopped, follow_more, follow_room, follow_on}
 use Rattle.negotiation.proofs.KeepTurn.{same_twice}
 use Rattle.negotiation.proofs.take_up.follow_net.Goals.{After-follow_tried-tried, Else-turns-eq0}
 use Rattle.negotiation.proofs.take_up.follow_net.Goals as goal
