@@ -1,6 +1,5 @@
 -- `negotiation::turns::net_turn` meets its contract: it is one turn for what is tried.
 -- Assumes nothing.
-use native.Mathlib.Omega.{arith}
 use Rattle.negotiation.proofs.NextTriedLaws.{tried-can, tried_done}
 use Rattle.negotiation.proofs.turns.net_turn.Goals as goal
 
