@@ -5,7 +5,9 @@ ghost use Rattle.std.specs.Prelude.{◌≤◌};
 ghost use Rattle.io.specs.Counts.{IsPrefixLen};
 
 use crate::{lines, show};
-use libc::STDIN_FILENO;
+
+// Standard input, by its number.
+const STDIN: i32 = 0;
 
 // A number's value, and the place after it.
 #[derive(Clone, Copy)]
@@ -410,7 +412,7 @@ pub fn end(case: &[u8], count: usize) {
 pub fn file(into: &mut [u8]) -> usize
     ensures { IsPrefixLen result into.new }
 {
-    let size = io::read_full(STDIN_FILENO, into);
+    let size = io::read_full(STDIN, into);
     if size == into.len() {
         show::malformed();
     }

@@ -1,18 +1,20 @@
 // Printing. A line has the case's name, the answer and every lent slice after the call: `X,` and a refusal's numbers, `=` and a call's
 // own numbers, and ` |` before the entries of a slice.
-use libc::STDOUT_FILENO;
+
+// Standard output, by its number.
+const STDOUT: i32 = 1;
 
 fn letter(b: u8) {
-    io::write_all(STDOUT_FILENO, &[b]);
+    io::write_all(STDOUT, &[b]);
 }
 
 fn number(n: u64) {
-    io::print_decimal(STDOUT_FILENO, n);
+    io::print_decimal(STDOUT, n);
 }
 
 // Stands in the output of a case that is not as it should be: no expected output has it.
 pub fn malformed() {
-    io::write_all(STDOUT_FILENO, b" malformed");
+    io::write_all(STDOUT, b" malformed");
 }
 
 // The case's name, which is its first line, and a colon.
@@ -31,7 +33,7 @@ pub fn name(case: &[u8]) {
 // A call's name.
 pub fn call(word: &[u8]) {
     letter(b' ');
-    io::write_all(STDOUT_FILENO, word);
+    io::write_all(STDOUT, word);
 }
 
 pub fn line_end() {

@@ -3,8 +3,12 @@
 #![tactic(auto)]
 
 use flow::BYTES;
-use libc::{STDIN_FILENO, STDOUT_FILENO};
 use text::Style;
+
+// Standard input and output, by their numbers.
+const STDIN: i32 = 0;
+
+const STDOUT: i32 = 1;
 
 // One byte more than a job text may have, so that a text that is too long is detected.
 const INPUT: usize = 65537;
@@ -13,7 +17,7 @@ const INPUT: usize = 65537;
 pub fn answer_input(style: Style) {
     let mut input = [0u8; INPUT];
     let mut routes = [0u8; BYTES];
-    let got = io::read_full(STDIN_FILENO, &mut input);
+    let got = io::read_full(STDIN, &mut input);
     let bytes = flow::answer(style, &input[..got], &mut routes);
-    io::write_all(STDOUT_FILENO, &routes[..bytes]);
+    io::write_all(STDOUT, &routes[..bytes]);
 }

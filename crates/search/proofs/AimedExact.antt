@@ -17,7 +17,6 @@ use lib.ListN.{get_or}
 use Rattle.price.specs.Lists.{has}
 use Rattle.price.proofs.TestLaws.{either_way, le_or_lt}
 use Rattle.price.proofs.ListLaws.{has-at}
-use Rattle.price.proofs.EntryLaws.{least_top}
 use Rattle.search.specs.Block.{Block, nodes, has_edge}
 use Rattle.search.specs.Paths.{Walk, stay, step, path_cost, Fair}
 use Rattle.search.specs.Distance.{far, tree_has, distance}

@@ -7,19 +7,17 @@
 -- Assumes nothing.
 use mathlib.Core.Bool.{Bool, true, false}
 use mathlib.Core.List.{List, [], ◌∷◌}
-use mathlib.Core.Logic.{◌⊎◌, ⊎_elim, inl, inr}
+use mathlib.Core.Logic.{⊎_elim}
 use mathlib.Core.Path.{◌≡◌, refl, sym, ◌∙◌, ap, subst}
-use Prim.Native.Nat.{ℕ, ◌+◌, ◌-◌, ◌*◌, ◌%◌, ◌≤◌, ◌<◌}
-use native.Mathlib.Nat.{mul-add}
+use Prim.Native.Nat.{ℕ, ◌+◌, ◌-◌, ◌%◌, ◌≤◌, ◌<◌}
 use native.Mathlib.Omega.{arith}
 use lib.Dec.{eqb}
-use lib.ListN.{length, get_or, set, length-set}
+use lib.ListN.{get_or, set, length-set}
 use borrow.Author.Tests.{eq-eqb, ne_eqb}
 use Rattle.price.specs.Test.{choose}
-use Rattle.price.specs.Bounds.{base_most}
 use Rattle.price.specs.Lists.{has, distinct, count_below, first_below}
-use Rattle.price.proofs.TestLaws.{le_or_lt, same_or_not, either_way, true≢false, never_true}
-use Rattle.price.proofs.BelowLaws.{first_below-below, first_below_holds, count_most_lem, count_less, count_one, count_same, count_zero}
+use Rattle.price.proofs.TestLaws.{le_or_lt, same_or_not, true≢false, never_true}
+use Rattle.price.proofs.BelowLaws.{first_below-below, first_below_holds, count_most_lem, count_less, count_one, count_zero}
 use Rattle.search.specs.Distance.{far}
 use Rattle.search.specs.Layout.{link_at, estimate_at}
 use Rattle.search.specs.Buckets.{buckets, Chain, ends, goes, Waiting, AtLevel, Lined, waits, LowestFrom}

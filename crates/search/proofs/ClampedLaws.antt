@@ -1,6 +1,6 @@
 -- Laws of numbers that are clamped within bounds, and of the price over them: it is a fair price for every input, and the price where each number keeps its bounds.
 -- Assumes nothing.
-use mathlib.Core.Bool.{true, false}
+use mathlib.Core.Bool.{true}
 use mathlib.Core.List.{List}
 use mathlib.Core.Logic.{⊎_elim}
 use mathlib.Core.Path.{◌≡◌, sym, ◌∙◌, ap}

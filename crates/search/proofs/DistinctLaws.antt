@@ -77,7 +77,7 @@ without x (y ∷ ys) h d =
           distinct_cons y r.rest
           (lacks y r.rest (λ k. true≢false (sym (r.within y k) ∙ distinct_first y ys d)))
           r.still-distinct;
-      within = λ z k. ⊎_elim (λ (e : z ≡ y). rw e (has_first y ys)) (λ l. has_rest z y ys (r.within z l)) (has_cons z y r.rest k);
+      within = λ z k. ⊎_elim (λ (e : z ≡ y). subst (λ (k : ℕ). has k (y ∷ ys) ≡ true) (sym e) (has_first y ys)) (λ l. has_rest z y ys (r.within z l)) (has_cons z y r.rest k);
       gone = λ k. ⊎_elim (λ (e : x ≡ y). true≢false (sym (rw e at m) ∙ distinct_first y ys d)) (λ l. r.gone l) (has_cons x y r.rest k);
     })
     (has_cons x y ys h)

@@ -5,17 +5,14 @@
 -- Assumes nothing.
 use mathlib.Core.List.{List, ◌∷◌, ◌++◌, append_assoc}
 use mathlib.Core.Path.{◌≡◌, sym, ◌∙◌}
-use Prim.Native.Nat.{ℕ, suc, ◌+◌, ◌-◌, ◌*◌, ◌≤◌, ◌<◌}
-use native.Mathlib.Nat.{not-suc-le-zero}
+use Prim.Native.Nat.{ℕ, suc, ◌+◌, ◌-◌, ◌≤◌, ◌<◌}
 use native.Mathlib.Numerals.{add-one}
 use native.Mathlib.Omega.{arith}
 use lib.ListN.{length, get_or, set, take, drop, replicate, length-append, length-take, length-replicate, replicate-append-replicate, take-append-drop}
-use lib.Seq.{drop-cons, get_or-set_same, get_or-set_other, set_at}
-use borrow.Author.Count.{below_more}
+use lib.Seq.{drop-cons, set_at}
 use Rattle.price.specs.Test.{choose}
 use Rattle.search.specs.Distance.{far, tree_has}
 use Rattle.search.proofs.DistanceLaws.{out_of_tree, in_the_tree}
-use Rattle.search.proofs.StoreLaws.{same_none, same_store}
 
 -- ---- a part that is being cleared
 

@@ -117,33 +117,36 @@ short_fails n xs s h =
     (one_fails (λ v. both (ltb v (length xs)) (s v)) n (length xs) h (rw (le-ltb (length xs) (length xs) (omega arith)))))
 
 -- the flag after the tests of entry v
-module _ (xs : List ℕ) {n v : ℕ} (h : v < n) (long : n ≤ length xs) {T F : Type 0} {fine next : Bool} (came : (T × (next ≡ false)) ⊎ (F × (next ≡ fine))) where
-  pub bounded-more : (most : ℕ) → (T → most < get_or xs v 0) → (F → get_or xs v 0 ≤ most) → Passing (bounded most xs) n v fine → Passing (bounded most xs) n (v + 1) next
-  bounded-more most bad good p =
+module _ (xs : List ℕ) {n v : ℕ} (h : v < n) (long : n ≤ length xs) where
+  pub bounded-more :
+      (most : ℕ) {fine next : Bool} → ((most < get_or xs v 0) × (next ≡ false)) ⊎ ((get_or xs v 0 ≤ most) × (next ≡ fine))
+      → Passing (bounded most xs) n v fine → Passing (bounded most xs) n (v + 1) next
+  bounded-more most came p =
       record {
         within = omega arith;
         tells =
             tells_more came
-            (λ w. one_fails (bounded most xs) n v h (both_false_right (ltb v (length xs)) (leb (get_or xs v 0) most) (lt-leb (get_or xs v 0) most (bad w))))
-            (λ w all. below_more _ _ all (both_true (lt-ltb v (length xs) (omega arith)) (le-leb (get_or xs v 0) most (good w))))
+            (λ w. one_fails (bounded most xs) n v h (both_false_right (ltb v (length xs)) (leb (get_or xs v 0) most) (lt-leb (get_or xs v 0) most w)))
+            (λ w all. below_more _ _ all (both_true (lt-ltb v (length xs) (omega arith)) (le-leb (get_or xs v 0) most w)))
             p.tells;
       }
 
   pub history_more :
-      (most : ℕ) {T₂ F₂ : Type 0} {last : Bool} → (T → get_or xs v 0 < 1) → (F → 1 ≤ get_or xs v 0) → (T₂ × (last ≡ false)) ⊎ (F₂ × (last ≡ next))
-      → (T₂ → most < get_or xs v 0) → (F₂ → get_or xs v 0 ≤ most) → Passing (history_bounded most xs) n v fine → Passing (history_bounded most xs) n (v + 1) last
-  history_more most low some came₂ high few p =
+      (most : ℕ) {fine next last : Bool} → ((get_or xs v 0 < 1) × (next ≡ false)) ⊎ ((1 ≤ get_or xs v 0) × (next ≡ fine))
+      → ((most < get_or xs v 0) × (last ≡ false)) ⊎ ((get_or xs v 0 ≤ most) × (last ≡ next))
+      → Passing (history_bounded most xs) n v fine → Passing (history_bounded most xs) n (v + 1) last
+  history_more most came came₂ p =
       let fails : both (leb 1 (get_or xs v 0)) (leb (get_or xs v 0) most) ≡ false → fails_at (history_bounded most xs) n < n =
       λ e. one_fails (history_bounded most xs) n v h (both_false_right (ltb v (length xs)) (both (leb 1 (get_or xs v 0)) (leb (get_or xs v 0) most)) e) in
       record {
         within = omega arith;
         tells =
             tells_more came₂
-            (λ w. fails (both_false_right (leb 1 (get_or xs v 0)) (leb (get_or xs v 0) most) (lt-leb (get_or xs v 0) most (high w))))
+            (λ w. fails (both_false_right (leb 1 (get_or xs v 0)) (leb (get_or xs v 0) most) (lt-leb (get_or xs v 0) most w)))
             (λ w (s : (1 ≤ get_or xs v 0) × ((k : ℕ) → k < v → history_bounded most xs k ≡ true)).
             below_more _ _ s.1
-            (both_true (lt-ltb v (length xs) (omega arith)) (both_true (le-leb 1 (get_or xs v 0) s.0) (le-leb (get_or xs v 0) most (few w)))))
-            (tells_more came (λ w. fails (rw (lt-leb 1 (get_or xs v 0) (low w)))) (λ w all. (some w, all)) p.tells);
+            (both_true (lt-ltb v (length xs) (omega arith)) (both_true (le-leb 1 (get_or xs v 0) s.0) (le-leb (get_or xs v 0) most w))))
+            (tells_more came (λ w. fails (rw (lt-leb 1 (get_or xs v 0) w))) (λ w all. (w, all)) p.tells);
       }
 
 -- ---- whether a node is bad

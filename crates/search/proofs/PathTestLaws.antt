@@ -1,6 +1,6 @@
 -- What the tests before a turn refuse, and what they have shown where they refuse nothing: the tables, the list of sinks and the numbers keep their rules.
 -- Assumes nothing.
-use mathlib.Core.Bool.{true, false}
+use mathlib.Core.Bool.{true}
 use mathlib.Core.List.{List, []}
 use mathlib.Core.Path.{◌≡◌, sym, ◌∙◌, ap}
 use Prim.Native.Nat.{ℕ, ◌*◌, ◌≤◌}

@@ -10,13 +10,13 @@
 use mathlib.Core.List.{List}
 use mathlib.Core.Logic.{◌⊎◌, ⊎_elim, inl, inr}
 use mathlib.Core.Path.{◌≡◌, refl, sym, ◌∙◌, subst}
-use Prim.Native.Nat.{ℕ, zero, suc, ◌+◌, ◌-◌, ◌*◌, ◌/◌, ◌≤◌, ◌<◌, min, suc-le-suc}
-use native.Mathlib.Nat.{not-suc-le-zero, lt_irrefl, le_refl, le_trans, min-le_left, min-le_right, min-eq_left, min-eq_right, min_comm, le-min, eq-or-lt_of_le}
+use Prim.Native.Nat.{ℕ, zero, suc, ◌+◌, ◌-◌, ◌*◌, ◌/◌, ◌≤◌, ◌<◌, min}
+use native.Mathlib.Nat.{not-suc-le-zero, le_refl, le_trans, min-le_left, min-le_right, min-eq_left, min-eq_right, min_comm, le-min, eq-or-lt_of_le}
 use native.Mathlib.Omega.{arith}
 use lib.ListN.{length, get_or, set, length-set}
 use Rattle.price.proofs.TestLaws.{le_or_lt, same_or_not}
 use Rattle.search.specs.Layout.{entry_at, leaf_at, TournamentAt, TournamentBut, LoweredBelow, Tournament, SameBut}
-use Rattle.search.proofs.StoreLaws.{store_here, store_other, same_none, same_store}
+use Rattle.search.proofs.StoreLaws.{store_here, store_other, same_store}
 
 -- ---- inner entries that are the least of their children
 

@@ -17,9 +17,9 @@ use borrow.Author.Tests.{le-leb, lt-leb, leb-true}
 use Rattle.price.specs.Bounds.{path_most, nodes_most}
 use Rattle.price.proofs.TestLaws.{le_or_lt, true≢false, same_or_not}
 use Rattle.price.proofs.BelowLaws.{count_less, count_same}
-use Rattle.search.specs.Block.{Block, nodes, row_start, has_edge}
+use Rattle.search.specs.Block.{Block, nodes, has_edge}
 use Rattle.search.specs.Labels.{goal, label_at, from_at, with_from, wait_at, key_at, beside_at, Waits, Heaped}
-use Rattle.search.specs.Spread.{bare, bare_count, Came, PlacePassed, EdgeLooked, DeadEnd, Spared, EdgePast, Spread, SpreadOnward, labelled, Idle, Labelled, ends, waits, GoalMet, lowered, stays, EdgeRelaxed, beyond, labels, lowers, tree, RowReady, LabelReady}
+use Rattle.search.specs.Spread.{bare, bare_count, Came, PlacePassed, EdgeLooked, EdgePast, Spread, SpreadOnward, labelled, Idle, Labelled, ends, waits, GoalMet, lowered, stays, EdgeRelaxed, beyond, labels, lowers, tree, RowReady, LabelReady}
 use Rattle.search.proofs.StoreLaws.{store_here, store_other}
 use Rattle.search.proofs.HeapLaws.{from_else, from_here, from_other, from_wait}
 

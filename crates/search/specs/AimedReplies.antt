@@ -1,6 +1,6 @@
 -- Request 2.13: what the cheapest path by the search that aims answers and leaves in the work slice.
 -- Assumes nothing.
-use Rattle.std.specs.Prelude.{List, [], ◌∷◌, ℕ, ◌+◌, eqb, length}
+use Rattle.std.specs.Prelude.{List, [], ℕ, ◌+◌, eqb, length}
 use Rattle.price.specs.Test.{choose}
 use Rattle.search.specs.Block.{Block, nodes}
 use Rattle.search.specs.Turn.{Congestion, Turn, turn}

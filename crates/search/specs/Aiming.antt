@@ -1,17 +1,16 @@
 -- What holds while a turn that aims goes on: estimates spread, and nodes are expanded by distance and estimate together. Only the contracts
 -- of private functions cite this file: no caller has to believe it.
 -- Assumes nothing.
-use Rattle.std.specs.Prelude.{Bool, true, false, List, [], ◌∷◌, ◌⊎◌, ◌≡◌, ℕ, ◌+◌, ◌*◌, ◌≤◌, ◌<◌, eqb, ltb, length, get_or, set}
-use Rattle.price.specs.Test.{choose, both}
+use Rattle.std.specs.Prelude.{Bool, true, false, List, [], ◌∷◌, ◌⊎◌, ◌≡◌, ℕ, ◌+◌, ◌*◌, ◌≤◌, ◌<◌, eqb, length, get_or, set}
+use Rattle.price.specs.Test.{choose}
 use Rattle.price.specs.Bounds.{path_most}
 use Rattle.price.specs.Lists.{has, distinct, count_below}
-use Rattle.search.specs.Block.{Block, graph_of, nodes, has_edge}
-use Rattle.search.specs.Paths.{any_price_most}
+use Rattle.search.specs.Block.{Block, nodes}
 use Rattle.search.specs.Distance.{far, tree_has, distances, distance}
 use Rattle.search.specs.Turn.{before, nearest_distance}
 use Rattle.search.specs.Aimed.{expands_by}
 use Rattle.search.specs.Layout.{dist_at, entry_at, leaf_at, link_at, pred_at, estimate_at, Tournament, Queued}
-use Rattle.search.specs.Estimates.{key_most, reach_most, key_given}
+use Rattle.search.specs.Estimates.{key_most, reach_most}
 
 -- ---- one edge
 

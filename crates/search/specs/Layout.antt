@@ -3,7 +3,6 @@
 -- The queue is a tournament tree: entry i is the least of entries 2 i and 2 i + 1, and node v's leaf is entry n + v.
 -- Assumes nothing.
 use Rattle.std.specs.Prelude.{List, ◌≡◌, ℕ, ◌+◌, ◌*◌, ◌≤◌, ◌<◌, min, length, get_or}
-use Rattle.search.specs.Distance.{far}
 
 abbrev pub dist_at : List ℕ → ℕ → ℕ
 dist_at w v = get_or w v 0

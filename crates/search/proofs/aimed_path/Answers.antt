@@ -21,11 +21,14 @@ module _ (c : After-fits_timed) where
   all_fit e =
       fitting_of (block_of c.args.kind.now c.args.capacity.now c.args.first_edge.now c.args.edge_target.now)
       (weighed_congestion c.args.weighting c.args.delay.now c.args.factor c.args.history.now c.args.others.now) c.args.in_tree.now
-      c.args.sinks.now c.args.work.now c.fits2.ensures c.fits_timed.ensures e
+      c.args.sinks.now c.args.work.now c.fits-fit.ensures c.fits_timed.ensures e
 
 -- the first table by target has another length than table 3
 pub returns-then-first_back-kind : goal.returns-then-first_back-kind
-returns-then-first_back-kind c = aimed_short _ _ _ _ _ _ _ _ _ _ (all_fit (goal.at.returns-then-first_back-kind c).After-fits_timed c.if-fits_timed.true) c.if-first_back-kind.true
+returns-then-first_back-kind c =
+    let fits = all_fit (goal.at.returns-then-first_back-kind c).After-fits_timed c.if-fits_timed.true in
+    let h = aimed_short _ _ _ _ _ _ _ _ _ _ fits c.if-first_back-kind.true in
+    record { answers = h.0; cheapest = h.1 }
 
 pub join-requires : goal.join-requires
 join-requires c =
@@ -33,8 +36,12 @@ join-requires c =
 
 pub returns-then-fits_timed : goal.returns-then-fits_timed
 returns-then-fits_timed c =
-    aimed_joined _ _ _ _ _ _ _ _ _ _ c.join.result _ (all_fit (goal.at.returns-then-fits_timed c).After-fits_timed c.if-fits_timed.true) c.if-first_back-kind.false c.join.ensures
+    let fits = all_fit (goal.at.returns-then-fits_timed c).After-fits_timed c.if-fits_timed.true in
+    let h = aimed_joined _ _ _ _ _ _ _ _ _ _ c.join.result _ fits c.if-first_back-kind.false c.join.ensures in
+    record { answers = h.0; cheapest = h.1 }
 
 pub returns : goal.returns
 returns c =
-    aimed_refused _ _ _ _ _ _ _ _ _ _ c.refused.result (all_fit (goal.at.returns c).After-fits_timed c.if-fits_timed.false) c.refused.ensures.0 c.refused.ensures.1
+    let fits = all_fit (goal.at.returns c).After-fits_timed c.if-fits_timed.false in
+    let h = aimed_refused _ _ _ _ _ _ _ _ _ _ c.refused.result fits c.refused.ensures.0 c.refused.ensures.1 in
+    record { answers = h.0; cheapest = h.1 }

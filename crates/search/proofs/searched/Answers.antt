@@ -28,6 +28,8 @@ returns-in-BadNumber c = record { answers = search_refused _ _ _ _ _ _ _ (c.faul
 
 pub returns-in-Done : goal.returns-in-Done
 returns-in-Done c =
+    let both =
     search_both _ _ _ _ _ _ _ Done _
     (search_done_lem _ _ _ _ _ _ _ (c.faulty_with_delays-table.ensures _ _ _) _ (c.first_refusal.ensures _) c.in-Done.is
-    c.distances_from_tree.ensures)
+    c.distances_from_tree.ensures) in
+    record { answers = both.0; distances = both.1 }

@@ -11,16 +11,16 @@ loop-left-init c = refl
 pub returns-then-case-at : goal.returns-then-case-at
 returns-then-case-at c =
     let text = c.args.case.now in
-    sym (from_past text c.loop-left.at c.loop-left.false c.if-case-at.true) ∙ c.loop-left.invariant
+    sym (from_past text c.loop-left.at c.loop-left.left c.if-case-at.true) ∙ c.loop-left.invariant
 
 pub loop-left-preserved : goal.loop-left-preserved
 loop-left-preserved c =
     let text = c.args.case.now in
-    ap (λ (at : ℕ). line_from text at (c.loop-left.false - 1)) c.next_line-at.ensures.value
-    ∙ sym (from_next text c.loop-left.at c.loop-left.false c.loop-left-test.true) ∙ c.loop-left.invariant
+    ap (λ (at : ℕ). line_from text at (c.loop-left.left - 1)) c.next_line-at.ensures.value
+    ∙ sym (from_next text c.loop-left.at c.loop-left.left c.loop-left-test.true) ∙ c.loop-left.invariant
 
 pub returns : goal.returns
 returns c =
     let text = c.args.case.now in
-    let none : c.loop-left.false ≡ 0 = search rules in
-    from_here text c.loop-left.at c.loop-left.false none ∙ c.loop-left.invariant
+    let none : c.loop-left.left ≡ 0 = search rules in
+    from_here text c.loop-left.at c.loop-left.left none ∙ c.loop-left.invariant

@@ -1,6 +1,6 @@
 -- `cases::lines::line` meets its contract: the line wanted is so many lines on from where it is. The measure is the number of lines that are left.
 -- Assumes nothing.
-use Rattle.std.proofs.Common.{◌≡◌, ◌-◌}
+use Rattle.std.proofs.Common.{◌≡◌}
 use Rattle.cases.specs.Lines.{line_from}
 use Rattle.cases.proofs.lines.line.Given as goal
 

@@ -1,6 +1,5 @@
 -- `cases::lines::next_line` meets its contract: it goes on to the first LF. The measure is what is left of the text.
 -- Assumes nothing.
-use Rattle.std.proofs.Common.{◌-◌}
 use Rattle.cases.proofs.LineLaws.{in_line, lf-found, in_line-on, text_ends}
 use Rattle.cases.proofs.lines.next_line.Goals as goal
 
@@ -8,10 +7,14 @@ pub loop-k-init : goal.loop-k-init
 loop-k-init c = in_line c.requires
 
 pub returns-then-text-k-eq10 : goal.returns-then-text-k-eq10
-returns-then-text-k-eq10 c = lf-found c.loop-k.invariant c.loop-k-test.true c.if-text-k-eq10.true
+returns-then-text-k-eq10 c =
+    let found = lf-found c.loop-k.invariant c.loop-k-test.true c.if-text-k-eq10.true in
+    record { value = found.0; lower_bound = found.1 }
 
 pub loop-k-preserved : goal.loop-k-preserved
 loop-k-preserved c = in_line-on c.loop-k.invariant c.loop-k-test.true c.if-text-k-eq10.false
 
 pub returns : goal.returns
-returns c = text_ends c.loop-k.invariant c.loop-k-test.false c.requires
+returns c =
+    let ends = text_ends c.loop-k.invariant c.loop-k-test.false c.requires in
+    record { value = ends.0; lower_bound = ends.1 }

@@ -1,6 +1,6 @@
 -- `cases::read::text` stores only within the array, and counts what it stored. The invariant: the length stays, and k is within it. The measure is what is left.
 -- Assumes nothing.
-use Rattle.std.proofs.Common.{◌-◌, sym, length-take-le, rules}
+use Rattle.std.proofs.Common.{sym, length-take-le, rules}
 use Rattle.cases.proofs.read.text.Goals as goal
 
 pub returns-then-rest-eq0 : goal.returns-then-rest-eq0

@@ -3,7 +3,7 @@
 use mathlib.Core.Bool.{not}
 use Rattle.std.proofs.Common.{ap}
 use mathlib.Core.Path.{sym, ◌∙◌}
-use Prim.Native.Nat.{◌+◌, ◌-◌}
+use Prim.Native.Nat.{◌+◌}
 use native.Mathlib.Omega.{arith}
 use Rattle.search.proofs.KeptLaws.{refused, passed}
 use Rattle.job.proofs.JobLaws.{source-below, firsts-long, firsts-order, firsts-most}

@@ -1,13 +1,10 @@
 -- `search::aim::aim` meets its contract: each return is one of the four things that looking at an edge can do, and keeps the least distances.
 -- Assumes nothing.
-use mathlib.Core.Bool.{not}
-use Rattle.std.proofs.Common.{ap}
 use mathlib.Core.Path.{refl, sym, ◌∙◌}
 use native.Mathlib.Omega.{arith}
-use borrow.Author.Tests.{not-true, not-false}
 use Rattle.search.specs.Aiming.{over_unlisted, over-shorter, over_lower, over-kept}
 use Rattle.search.proofs.aim.BestLaws.{best_pred, low-pred}
-use Rattle.search.proofs.aim.aim.Goals.{else-old-d-2, then-old-d-2}
+use Rattle.search.proofs.aim.aim.Goals.{else-old-d-2, then-old-d-2+else-work-n}
 use Rattle.search.proofs.aim.aim.Goals as goal
 
 pub returns-then-old-d : goal.returns-then-old-d
@@ -17,19 +14,19 @@ pub returns-then-work-n : goal.returns-then-work-n
 returns-then-work-n c = let same = c.if-old-d-2.true in (over-kept (omega arith) (λ e. c.if-work-n.true) refl, λ s. s, λ s. s)
 
 pub returns-then-not-listed : goal.returns-then-not-listed
-returns-then-not-listed c = (over_unlisted (sym c.listed.ensures ∙ not-true _ (ap not c.if-not-listed.true)) refl, λ s. s, λ s. s)
+returns-then-not-listed c = (over_unlisted (sym c.listed.ensures ∙ c.if-not-listed.true) refl, λ s. s, λ s. s)
 
 pub returns-then-d-old : goal.returns-then-d-old
 returns-then-d-old c =
     let made = c.shorten.ensures in
-    (over-shorter (sym c.listed.ensures ∙ not-false _ (ap not c.if-not-listed.false)) c.if-d-old.true made.0, made.1, made.2)
+    (over-shorter (sym c.listed.ensures ∙ c.if-not-listed.false) c.if-d-old.true made.0, made.1, made.2)
 
 pub returns : goal.returns
 returns c =
     let no-farther = c.if-old-d.false in
     let no-nearer = c.if-d-old.false in (
-      over_lower (sym c.listed.ensures ∙ not-false _ (ap not c.if-not-listed.false)) (omega arith)
-          ((elim c.if-old-d-2.branch [ then-old-d-2 w ↦ w.2.left | else-old-d-2 w ↦ absurd (w.left (omega arith)) ])) refl,
+      over_lower (sym c.listed.ensures ∙ c.if-not-listed.false) (omega arith)
+          ((elim c.if-old-d-2.branch [ then-old-d-2+else-work-n w ↦ w.if-work-n.false | else-old-d-2 w ↦ absurd (w.if-old-d-2.false (omega arith)) ])) refl,
       best_pred _ _ _ c.requires.ready.1 refl,
       low-pred _ _ _ c.requires.ready.1 refl,
     )

@@ -1,11 +1,10 @@
 -- `search::aim::aim_row` meets its contract. The invariant: the row has been looked at up to place e, and r has the least distances. The measure is what is left of the row.
 -- Assumes nothing.
-use mathlib.Core.Logic.{⊎_elim}
-use Prim.Native.Nat.{◌-◌}
 use native.Mathlib.Omega.{arith}
 use Rattle.price.proofs.TimedLaws.{weighed-low}
 use Rattle.search.proofs.ClampedLaws.{clamped-pos}
 use Rattle.search.proofs.aim.AimRows.{row_as, aim_row-none, row_room, aim_row-all, aim_row-beyond, aim_row-nearer, aim_row-sum, aim_row-fits, aim_row-more}
+use Rattle.search.proofs.aim.aim_row.Goals.{then-v-n+then-d-work, then-v-n+else-d-work, else-v-n}
 use Rattle.search.proofs.aim.aim_row.Goals as goal
 
 pub offset_bounds-work-u : goal.offset_bounds-work-u
@@ -60,7 +59,13 @@ aim-r-requires c =
     let p = c.clamped_price-p.ensures.1 in
     let ready = c.requires.3 in
     let to = c.row_place-to.ensures in
-    let more = c.loop-e-test.true in record { ready = (ready.node, c.if-v-n.true, row_room ready c.loop-e.invariant to, c.loop-e.invariant.some.queue, c.requires.2, aim_row-sum ready c.loop-e.invariant to more (omega arith)); back_lent = aim_row-fits ready c.loop-e.invariant to more c.if-v-n.true (omega arith) }
+    let inv = c.loop-e.invariant in
+    let more = c.loop-e-test.true in
+    record {
+      ready =
+          (ready.node, c.if-v-n.true, row_room ready inv to, inv.some.queue, c.requires.2, aim_row-sum ready inv to more (omega arith));
+      back_lent = aim_row-fits ready inv to more c.if-v-n.true (omega arith);
+    }
 
 pub overflow_add-e : goal.overflow_add-e
 overflow_add-e c =
@@ -78,14 +83,13 @@ loop-e-preserved c =
     let inv = c.loop-e.invariant in
     let to = c.row_place-to.ensures in
     let more = c.loop-e-test.true in
-    ⊎_elim
-    (λ w. row_as w.8 w.9 (aim_row-more ready inv to more w.0.taken w.3.ensures.0 w.5.ensures.0 w.5.ensures.1 w.5.ensures.2))
-    (λ x.
-    ⊎_elim
-    (λ w. row_as w.3 w.4 (aim_row-nearer ready inv to more (clamped-pos _ _ _ _) w.2.left))
-    (λ w. row_as w.1 w.2 (aim_row-beyond ready inv to more w.0.left))
-    x)
-    c.if-v-n.branch
+    elim c.if-v-n.branch [
+      | then-v-n+then-d-work w ↦
+          let made = w.aim-r.ensures in
+          row_as w.work-is w.r-is (aim_row-more ready inv to more w.if-v-n.true w.clamped_price-p.ensures.0 made.0 made.1 made.2)
+      | then-v-n+else-d-work w ↦ row_as w.work-is w.r-is (aim_row-nearer ready inv to more (clamped-pos _ _ _ _) w.if-d-work.false)
+      | else-v-n w ↦ row_as w.work-is w.r-is (aim_row-beyond ready inv to more w.if-v-n.false)
+    ]
 
 pub shape_of-work : goal.shape_of-work
 shape_of-work c = c.loop-e.invariant.some.long

@@ -1,6 +1,5 @@
 -- `search::aimed_turn::fill_far` meets its contract. The invariant: the entries up to k hold `far`. The measure is how many are left.
 -- Assumes nothing.
-use Prim.Native.Nat.{◌-◌}
 use native.Mathlib.Omega.{arith}
 use Rattle.search.proofs.aimed_turn.StartLaws.{fill_none, fill_more, fill_all}
 use Rattle.search.proofs.aimed_turn.fill_far.Goals as goal

@@ -19,5 +19,6 @@ read_aimed-requires c =
 
 pub returns : goal.returns
 returns c =
+    λ firsts targets backs sources counted.
     turn_replies _ _ _ _ _ _ _ _ _ c.requires.0 c.start-trees.ensures c.run-found.ensures firsts targets backs sources counted
     c.read_aimed.ensures

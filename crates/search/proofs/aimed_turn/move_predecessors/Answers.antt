@@ -1,6 +1,5 @@
 -- `search::aimed_turn::move_predecessors` meets its contract: after the turns up to v, the predecessors of the nodes below v are moved.
 -- Assumes nothing.
-use Prim.Native.Nat.{◌-◌}
 use Rattle.search.proofs.AimedTurnLaws.{moving_none, moving_more, moving_all}
 use Rattle.search.proofs.aimed_turn.move_predecessors.Goals as goal
 

@@ -2,21 +2,19 @@
 -- how many nodes are not expanded, lack an estimate or wait to spread theirs.
 -- Assumes nothing.
 use mathlib.Core.List.{List}
-use mathlib.Core.Logic.{⊎_elim, inl, inr}
-use mathlib.Core.Path.{refl, sym}
-use Prim.Native.Nat.{ℕ, ◌+◌, ◌-◌, ◌≤◌}
+use mathlib.Core.Logic.{◌⊎◌, inl, inr}
+use mathlib.Core.Path.{◌≡◌, refl, sym}
+use Prim.Native.Nat.{ℕ, ◌+◌, ◌≤◌}
 use native.Mathlib.Omega.{arith}
 use lib.ListN.{length, get_or-replicate}
 use Rattle.search.specs.Distance.{far}
 use Rattle.search.specs.Turn.{weighed_congestion}
 use Rattle.search.specs.Layout.{entry_at}
+use Rattle.search.specs.Buckets.{LowestFrom}
 use Rattle.search.proofs.aimed_turn.AimStart.{started_sized, started_queue, started_lacking, started_out}
-use Rattle.search.proofs.aimed_turn.AimRun.{TurnOver, Turning, Raised, turn-begins, turn-long, turn_count_lem, turn_low, turn-heads, level-ready, turn_raised, turn-ends, expands-ready, turn-expands, same_blanks, spreads-ready, turn-spreads, spreading_falls, falls_expanding, falls_spreading}
-use Rattle.search.proofs.aimed_turn.run.Goals.{After-done, At-loop-f, Joined-f-gt0}
+use Rattle.search.proofs.aimed_turn.AimRun.{TurnOver, Turning, turn-begins, turn-long, turn_count_lem, turn_low, turn-heads, level-ready, turn_raised, turn-ends, expands-ready, turn-expands, same_blanks, spreads-ready, turn-spreads, spreading_falls, falls_expanding, falls_spreading}
+use Rattle.search.proofs.aimed_turn.run.Goals.{After-done, At-loop-f, Joined-f-gt0, then-f-gt0, else-f-gt0}
 use Rattle.search.proofs.aimed_turn.run.Goals as goal
-
-abbrev at_loop_f : Joined-f-gt0 → At-loop-f
-at_loop_f c = c.before.before
 
 -- what the turn is over
 abbrev Over : At-loop-f → List ℕ → Type 0
@@ -32,27 +30,25 @@ over c =
     record { ready = c.requires.0; scale_is = s.0; scale_pos = s.1; scale_most_lem = s.2 }
 
 -- how far it has come
-abbrev At : (c : Head) (w : List ℕ) → Over c w → Type 0
-At c w o = Turning o c.loop.work c.loop.head c.loop.f.count c.loop.f.lacking c.loop.r.best c.loop.r.low c.loop.level c.loop.expanded
+abbrev At : (c : At-loop-f) (w : List ℕ) → Over c w → Type 0
+At c w o = Turning o c.loop-f.work c.loop-f.head c.loop-f.f.count c.loop-f.f.lacking c.loop-f.r.best c.loop-f.r.low c.loop-f.level c.loop-f.expanded
 
 -- at its beginning
-begun : (c : Head)
-    → Turning (over c) (given c).give_sinks.new.1.1.0 (given c).give_sinks.new.1.1.1.0 (given c).give_sinks.result.count
-    (given c).give_sinks.result.lacking far far 0 0
-begun c = let g = (given c).give_sinks.ensures in turn-begins (over c) (entry c).requires.1.1 g.0 g.1
+begun : (c : At-loop-f)
+    → Turning (over c) c.give_sinks-f.new.work c.give_sinks-f.new.head c.give_sinks-f.result.count c.give_sinks-f.result.lacking far far 0 0
+begun c = let g = c.give_sinks-f.ensures in turn-begins (over c) c.requires.1.1 g.0 g.1
 
 state : (c : At-loop-f) → At c c.args.work.now (over c)
 state c = c.loop-f.invariant c.args.work.now (over c) (begun c)
 
--- at the level to which it rises
-raise : (c : Level) (w : List ℕ) (o : Over c.before.before w) → At c.before.before w o
-    → Raised o c.before.before.loop.work c.before.before.loop.head c.before.before.loop.f.count c.before.before.loop.f.lacking
-    c.before.before.loop.r.best c.before.before.loop.r.low c.if1.level c.before.before.loop.expanded
-raise c w o s = turn_raised s (⊎_elim (λ q. inl (rw q.3 q.2.ensures)) (λ q. inr (q.0.left, q.1)) c.if1.branch)
-
-raised : (c : Joined-f-gt0) → Raised (over (at_loop_f c)) c.loop-f.work c.loop-f.head c.loop-f.f.count
-    c.loop-f.f.lacking c.loop-f.r.best c.loop-f.r.low c.if-f-gt0.level c.loop-f.expanded
-raised c = raise c _ (over (at_loop_f c)) (state (at_loop_f c))
+-- the level to which it rises: the least at which a node waits, if any does
+rise : (c : Joined-f-gt0)
+    → LowestFrom c.loop-f.head c.loop-f.level c.if-f-gt0.level ⊎ ((c.loop-f.f.count ≤ 0) × (c.if-f-gt0.level ≡ c.loop-f.level))
+rise c =
+    elim c.if-f-gt0.branch [
+      | then-f-gt0 q ↦ inl (rw q.level-is q.lowest-level.ensures)
+      | else-f-gt0 q ↦ inr (q.if-f-gt0.false, q.level-is)
+    ]
 
 -- the least key is a number of 64 bits
 top : (c : After-done) → entry_at (length c.args.kind.now) c.loop-f.work 1 ≤ far
@@ -83,67 +79,98 @@ pub loop-f-init : goal.loop-f-init
 loop-f-init c = λ w o s. s
 
 pub slice_bounds-lowest-end : goal.slice_bounds-lowest-end
-slice_bounds-lowest-end c = sym (turn-heads (state (goal.at.slice_bounds-lowest-end c).At-loop-f))
+slice_bounds-lowest-end c =
+    let at = goal.at.slice_bounds-lowest-end c in
+    sym (turn-heads (state at.At-loop-f))
 
 pub lowest-level-requires : goal.lowest-level-requires
-lowest-level-requires c = level-ready (state (goal.at.lowest-level-requires c).At-loop-f) c.if-f-gt0.true
+lowest-level-requires c =
+    let at = goal.at.lowest-level-requires c in
+    level-ready (state at.At-loop-f) c.if-f-gt0.true
 
 pub overflow_add-least : goal.overflow_add-least
-overflow_add-least c = let l = turn-long (state (goal.at.overflow_add-least c).At-loop-f) in omega arith
+overflow_add-least c =
+    let at = goal.at.overflow_add-least c in
+    let l = turn-long (state at.At-loop-f) in omega arith
 
 pub offset_bounds-work-n : goal.offset_bounds-work-n
-offset_bounds-work-n c = let l = turn-long (state (goal.at.offset_bounds-work-n c).At-loop-f) in omega arith
+offset_bounds-work-n c =
+    let at = goal.at.offset_bounds-work-n c in
+    let l = turn-long (state at.At-loop-f) in omega arith
 
 pub bounds-work-n : goal.bounds-work-n
-bounds-work-n c = let l = turn-long (state (goal.at.bounds-work-n c).At-loop-f) in omega arith
+bounds-work-n c =
+    let at = goal.at.bounds-work-n c in
+    let l = turn-long (state at.At-loop-f) in omega arith
 
 pub least_lacking-coming-requires : goal.least_lacking-coming-requires
-least_lacking-coming-requires c = turn_low (raised (goal.at.least_lacking-coming-requires c).Joined-f-gt0).turning
+least_lacking-coming-requires c =
+    let at = goal.at.least_lacking-coming-requires c in
+    let raised = turn_raised (state at.At-loop-f) (rise at.Joined-f-gt0) in
+    turn_low raised.turning
 
 pub shape_of-work-then-done : goal.shape_of-work-then-done
-shape_of-work-then-done c = (turn-long (state (goal.at.shape_of-work-then-done c).At-loop-f)).0
+shape_of-work-then-done c =
+    let at = goal.at.shape_of-work-then-done c in
+    (turn-long (state at.At-loop-f)).0
 
 pub returns-then-done : goal.returns-then-done
 returns-then-done c =
-    turn-ends (raised (goal.at.returns-then-done c).Joined-f-gt0).turning c.least_lacking-coming.ensures (top (goal.at.returns-then-done c).After-done) (c.done.ensures.ends c.if-done.true)
+    let at = goal.at.returns-then-done c in
+    let raised = turn_raised (state at.At-loop-f) (rise at.Joined-f-gt0) in
+    turn-ends raised.turning c.least_lacking-coming.ensures (top at.After-done) (c.done.ensures.ends c.if-done.true)
 
 pub overflow_add-expanded : goal.overflow_add-expanded
-overflow_add-expanded c = let s = state (goal.at.overflow_add-expanded c).At-loop-f in let l = turn-long s in omega (arith, turn_count_lem s)
+overflow_add-expanded c =
+    let at = goal.at.overflow_add-expanded c in
+    let s = state at.At-loop-f in let l = turn-long s in omega (arith, turn_count_lem s)
 
 pub expand_next-r-requires : goal.expand_next-r-requires
 expand_next-r-requires c =
-    expands-ready (raised (goal.at.expand_next-r-requires c).Joined-f-gt0).turning c.least_lacking-coming.ensures (top (goal.at.expand_next-r-requires c).After-done) (c.done.ensures.goes c.if-done.false) c.if-least-coming.true
+    let at = goal.at.expand_next-r-requires c in
+    let raised = turn_raised (state at.At-loop-f) (rise at.Joined-f-gt0) in
+    expands-ready raised.turning c.least_lacking-coming.ensures (top at.After-done) (c.done.ensures.goes c.if-done.false) c.if-least-coming.true
 
 pub loop-f-preserved-then-least-coming : goal.loop-f-preserved-then-least-coming
 loop-f-preserved-then-least-coming c =
+    let at = goal.at.loop-f-preserved-then-least-coming c in
     let x = c.expand_next-r.ensures in
     λ w o s.
-    turn-expands (raise (goal.at.loop-f-preserved-then-least-coming c).Joined-f-gt0 w o (c.loop-f.invariant w o s)).turning c.least_lacking-coming.ensures (top (goal.at.loop-f-preserved-then-least-coming c).After-done) (c.done.ensures.goes c.if-done.false)
+    turn-expands (turn_raised (c.loop-f.invariant w o s) (rise at.Joined-f-gt0)).turning c.least_lacking-coming.ensures (top at.After-done) (c.done.ensures.goes c.if-done.false)
     c.if-least-coming.true x.0 x.1 x.2
 
 pub loop-f-smaller-then-least-coming : goal.loop-f-smaller-then-least-coming
 loop-f-smaller-then-least-coming c =
+    let at = goal.at.loop-f-smaller-then-least-coming c in
+    let raised = turn_raised (state at.At-loop-f) (rise at.Joined-f-gt0) in
     let n = length c.args.kind.now in
-    let fewer = turn_count_lem (loop-f-preserved-then-least-coming c c.args.work.now (over (goal.at.loop-f-smaller-then-least-coming c).At-loop-f) (begun (goal.at.loop-f-smaller-then-least-coming c).At-loop-f)) in
+    let fewer = turn_count_lem (loop-f-preserved-then-least-coming c c.args.work.now (over at.At-loop-f) (begun at.At-loop-f)) in
     falls_expanding n c.loop-f.expanded c.loop-f.f.count fewer
-    (same_blanks (raised (goal.at.loop-f-smaller-then-least-coming c).Joined-f-gt0).turning c.least_lacking-coming.ensures (top (goal.at.loop-f-smaller-then-least-coming c).After-done) (c.done.ensures.goes c.if-done.false) c.if-least-coming.true
+    (same_blanks raised.turning c.least_lacking-coming.ensures (top at.After-done) (c.done.ensures.goes c.if-done.false) c.if-least-coming.true
     c.expand_next-r.ensures.0)
 
 pub slice_bounds-spread_next-end : goal.slice_bounds-spread_next-end
-slice_bounds-spread_next-end c = sym (turn-heads (state (goal.at.slice_bounds-spread_next-end c).At-loop-f))
+slice_bounds-spread_next-end c =
+    let at = goal.at.slice_bounds-spread_next-end c in
+    sym (turn-heads (state at.At-loop-f))
 
 pub spread_next-f-requires : goal.spread_next-f-requires
 spread_next-f-requires c =
-    spreads-ready (raised (goal.at.spread_next-f-requires c).Joined-f-gt0) c.least_lacking-coming.ensures (top (goal.at.spread_next-f-requires c).After-done) (c.done.ensures.goes c.if-done.false) c.if-least-coming.false
+    let at = goal.at.spread_next-f-requires c in
+    let raised = turn_raised (state at.At-loop-f) (rise at.Joined-f-gt0) in
+    spreads-ready raised c.least_lacking-coming.ensures (top at.After-done) (c.done.ensures.goes c.if-done.false) c.if-least-coming.false
 
 pub loop-f-preserved : goal.loop-f-preserved
 loop-f-preserved c =
+    let at = goal.at.loop-f-preserved c in
     let x = c.spread_next-f.ensures in
-    λ w o s. turn-spreads (raise (goal.at.loop-f-preserved c).Joined-f-gt0 w o (c.loop-f.invariant w o s)).turning x.0 x.1
+    λ w o s. turn-spreads (turn_raised (c.loop-f.invariant w o s) (rise at.Joined-f-gt0)).turning x.0 x.1
 
 pub loop-f-smaller : goal.loop-f-smaller
 loop-f-smaller c =
-    falls_spreading (length c.args.kind.now) c.loop-f.expanded (spreading_falls (raised (goal.at.loop-f-smaller c).Joined-f-gt0).turning c.spread_next-f.ensures.0)
+    let at = goal.at.loop-f-smaller c in
+    let raised = turn_raised (state at.At-loop-f) (rise at.Joined-f-gt0) in
+    falls_spreading (length c.args.kind.now) c.loop-f.expanded (spreading_falls raised.turning c.spread_next-f.ensures.0)
 
 pub scale_of-scale-requires : goal.scale_of-scale-requires
 scale_of-scale-requires c = tt

@@ -1,8 +1,6 @@
 -- `search::estimate::give_before` meets its contract. The invariant: the places of v's row below e have been passed. The measure is how many are left.
 -- Assumes nothing.
-use mathlib.Core.Logic.{⊎_elim}
-use mathlib.Core.Path.{sym, ◌∙◌}
-use Prim.Native.Nat.{◌-◌, ◌*◌, ◌≤◌, ◌<◌}
+use Prim.Native.Nat.{◌*◌, ◌≤◌, ◌<◌}
 use native.Mathlib.Omega.{arith}
 use lib.ListN.{length}
 use Rattle.price.specs.Bounds.{nodes_most}
@@ -14,15 +12,15 @@ use Rattle.search.proofs.ClampedLaws.{base_light}
 use Rattle.search.proofs.BucketLaws.{count_room}
 use Rattle.search.proofs.estimate.GiveLaws.{key_small}
 use Rattle.search.proofs.estimate.EstimateSteps.{lacking_is, lacking_some, sized-beside, row_begin, row_skip, row_more, row-end}
-use Rattle.search.proofs.estimate.give_before.Goals.{At-loop-e}
+use Rattle.search.proofs.estimate.give_before.Goals.{At-loop-e, then-u-n+then-work-n, then-u-n+else-work-n, else-u-n}
 use Rattle.search.proofs.estimate.give_before.Goals as goal
 
 -- what has been given so far, from the nodes that wait at the entry
-some : (c : Head)
-    → SomeGiven (graph_of (entry c).args.kind.now (entry c).args.first_back.now (entry c).args.back_source.now) (clamped_base (entry c).args.kind.now)
-    (entry c).args.scale (entry c).args.v (entry c).args.estimate (entry c).args.work.now c.loop.work (entry c).args.head.now c.loop.head
-    (entry c).args.start.count c.loop.f.count (entry c).requires.1.lined
-some c = (c.loop.invariant.0 (entry c).requires.1.lined).some
+some : (c : At-loop-e)
+    → SomeGiven (graph_of c.args.kind.now c.args.first_back.now c.args.back_source.now) (clamped_base c.args.kind.now)
+    c.args.scale c.args.v c.args.estimate c.args.work.now c.loop-e.work c.args.head.now c.loop-e.head
+    c.args.start.count c.loop-e.f.count c.requires.1.lined
+some c = (c.loop-e.invariant.0 c.requires.1.lined).some
 
 room : (c : At-loop-e) → (length c.args.kind.now ≤ nodes_most) × (8 * length c.args.kind.now ≤ length c.loop-e.work)
 room c = (c.requires.1.few, rw (some c).same.long c.requires.1.sized.long)
@@ -62,24 +60,18 @@ give-f-requires c =
 pub loop-e-preserved : goal.loop-e-preserved
 loop-e-preserved c =
     let inv = c.loop-e.invariant in
-    ⊎_elim
-    (λ w.
-    rw (w.10, w.11, w.12) (
-      λ l.
-          row_more (inv.0 l) c.row_place-to.ensures c.loop-e-test.true (small (goal.at.loop-e-preserved c).At-loop-e) w.0.taken (base_light _ _) w.2.taken w.5.ensures.0
-          w.5.ensures.1,
-      lacking_is w.0.taken w.2.taken (small (goal.at.loop-e-preserved c).At-loop-e) w.5.ensures.0 inv.1 w.5.ensures.2,
-    ))
-    (⊎_elim
-    (λ w. rw (w.3, w.4, w.5) (λ l. row_skip (inv.0 l) (λ h b. w.2.left b), inv.1))
-    (λ w. rw (w.1, w.2, w.3) (λ l. row_skip (inv.0 l) (λ h b. omega (arith, w.0.left)), inv.1)))
-    c.if-u-n.branch
-
-pub shape_of-work : goal.shape_of-work
-shape_of-work c = (some c).same.long
-
-pub shape_of-head : goal.shape_of-head
-shape_of-head c = (some c).lined.waiting.heads ∙ sym c.requires.1.lined.waiting.heads
+    elim c.if-u-n.branch [
+      | then-u-n+then-work-n w ↦
+          let h = w.if-u-n.true in
+          let bare = w.if-work-n.true in
+          let made = w.give-f.ensures in
+          rw (w.work-is, w.head-is, w.f-is) (
+            λ l. row_more (inv.0 l) c.row_place-to.ensures c.loop-e-test.true (small (goal.at.loop-e-preserved c).At-loop-e) h (base_light _ _) bare made.0 made.1,
+            lacking_is h bare (small (goal.at.loop-e-preserved c).At-loop-e) made.0 inv.1 made.2,
+          )
+      | then-u-n+else-work-n w ↦ rw (w.work-is, w.head-is, w.f-is) (λ l. row_skip (inv.0 l) (λ h b. w.if-work-n.false b), inv.1)
+      | else-u-n w ↦ rw (w.work-is, w.head-is, w.f-is) (λ l. row_skip (inv.0 l) (λ h b. omega (arith, w.if-u-n.false)), inv.1)
+    ]
 
 pub returns : goal.returns
 returns c =

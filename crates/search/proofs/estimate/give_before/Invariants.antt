@@ -12,8 +12,8 @@ use Rattle.search.proofs.estimate.give_before.Given as goal
 
 abbrev pub invariant-loop-e : goal.invariant-loop-e
 invariant-loop-e l =
-    ((l : Lined (length l.kind) (clamped_base l.kind) l.scale l.initial.work l.initial.head l.initial.f.count l.estimate)
-    → GivingRow (graph_of l.kind l.first_back l.back_source) (clamped_base l.kind) l.scale l.v l.estimate l.initial.work l.work l.initial.head l.head l.initial.f.count l.f.count l.e l)
+    ((k : Lined (length l.kind) (clamped_base l.kind) l.scale l.initial.work l.initial.head l.initial.f.count l.estimate)
+    → GivingRow (graph_of l.kind l.first_back l.back_source) (clamped_base l.kind) l.scale l.v l.estimate l.initial.work l.work l.initial.head l.head l.initial.f.count l.f.count l.e k)
     × (l.f.lacking ≡ lacking_in (length l.kind) l.work)
 
 abbrev pub decreases-loop-e : goal.decreases-loop-e

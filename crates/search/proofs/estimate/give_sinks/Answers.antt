@@ -1,9 +1,8 @@
 -- `search::estimate::give_sinks` meets its contract. The invariant: the unjoined sinks at places below i have estimate 0. The measure is how many sinks are left.
 -- Assumes nothing.
 use mathlib.Core.List.{[]}
-use mathlib.Core.Logic.{⊎_elim}
 use mathlib.Core.Path.{sym, ◌∙◌}
-use Prim.Native.Nat.{◌-◌, ◌*◌, ◌≤◌}
+use Prim.Native.Nat.{◌*◌, ◌≤◌}
 use native.Mathlib.Omega.{arith}
 use lib.ListN.{length}
 use Rattle.price.specs.Bounds.{nodes_most}
@@ -13,7 +12,7 @@ use Rattle.search.proofs.ClampedLaws.{base_light}
 use Rattle.search.proofs.BucketLaws.{count_room}
 use Rattle.search.proofs.estimate.EstimateSteps.{lacking_is, lacking_some, sized-beside}
 use Rattle.search.proofs.estimate.EstimateStart.{sinks-none, sinks_passed, stands_zero, sinks-more, sinks-all}
-use Rattle.search.proofs.estimate.give_sinks.Goals.{At-loop-i}
+use Rattle.search.proofs.estimate.give_sinks.Goals.{At-loop-i, then-s-n+then-in_tree-s-ne1+then-work-n, then-s-n+then-in_tree-s-ne1+else-work-n, then-s-n+else-in_tree-s-ne1, else-s-n}
 use Rattle.search.proofs.estimate.give_sinks.Goals as goal
 
 room : (c : At-loop-i) → (length c.args.kind.now ≤ nodes_most) × (8 * length c.args.kind.now ≤ length c.loop-i.work)
@@ -53,20 +52,26 @@ give-f-requires c =
 pub loop-i-preserved : goal.loop-i-preserved
 loop-i-preserved c =
     let inv = c.loop-i.invariant in
-    ⊎_elim
-    (λ w.
-    rw (w.12, w.13, w.14) (
-      λ sources.
-          sinks-more (inv.0 sources) c.loop-i-test.true w.0.taken w.2.taken w.4.taken (base_light _ _) (c.requires.12 _ w.0.taken w.2.taken)
-          w.7.ensures.0 w.7.ensures.1,
-      lacking_is w.0.taken w.4.taken (omega arith) w.7.ensures.0 inv.1 w.7.ensures.2,
-    ))
-    (⊎_elim
-    (λ w. rw (w.5, w.6, w.7) (λ sources. sinks_passed (inv.0 sources) (λ h o. stands_zero (inv.0 sources) _ h w.4.left), inv.1))
-    (⊎_elim
-    (λ w. rw (w.3, w.4, w.5) (λ sources. sinks_passed (inv.0 sources) (λ h o. absurd (true≢false (sym (in_the_tree _ _ w.2.left) ∙ o))), inv.1))
-    (λ w. rw (w.1, w.2, w.3) (λ sources. sinks_passed (inv.0 sources) (λ h o. absurd (omega (arith, w.0.left))), inv.1))))
-    c.if-s-n.branch
+    elim c.if-s-n.branch [
+      | then-s-n+then-in_tree-s-ne1+then-work-n w ↦
+          let h = w.if-s-n.true in
+          let out = w.if-in_tree-s-ne1.true in
+          let bare = w.if-work-n.true in
+          let made = w.give-f.ensures in
+          rw (w.work-is, w.head-is, w.f-is) (
+            λ sources. sinks-more (inv.0 sources) c.loop-i-test.true h out bare (base_light _ _) (c.requires.12 _ h out) made.0 made.1,
+            lacking_is h bare (omega arith) made.0 inv.1 made.2,
+          )
+      | then-s-n+then-in_tree-s-ne1+else-work-n w ↦
+          rw (w.work-is, w.head-is, w.f-is) (λ sources. sinks_passed (inv.0 sources) (λ h o. stands_zero (inv.0 sources) _ h w.if-work-n.false), inv.1)
+      | then-s-n+else-in_tree-s-ne1 w ↦
+          rw (w.work-is, w.head-is, w.f-is) (
+            λ sources. sinks_passed (inv.0 sources) (λ h o. absurd (true≢false (sym (in_the_tree _ _ w.if-in_tree-s-ne1.false) ∙ o))),
+            inv.1,
+          )
+      | else-s-n w ↦
+          rw (w.work-is, w.head-is, w.f-is) (λ sources. sinks_passed (inv.0 sources) (λ h o. absurd (omega (arith, w.if-s-n.false))), inv.1)
+    ]
 
 pub shape_of-work : goal.shape_of-work
 shape_of-work c = (c.loop-i.invariant.0 []).same.long

@@ -11,7 +11,7 @@ has_to_wait-requires c =
 
 pub add-requires : goal.add-requires
 add-requires c =
-    label-heap c.requires c.args.d c.set_from.ensures
+    let h = label-heap c.requires c.args.d c.set_from.ensures in record { heaped = h.0; v_waits = h.1 }
 
 pub shape_of-work-then-has_to_wait : goal.shape_of-work-then-has_to_wait
 shape_of-work-then-has_to_wait c =

@@ -1,6 +1,5 @@
 -- `search::labels::leads_on` meets its contract. The invariant: the edges before place e lead to dead ends alone. The measure is what is left of the row.
 -- Assumes nothing.
-use Prim.Native.Nat.{◌-◌}
 use native.Mathlib.Omega.{arith}
 use Rattle.price.proofs.TestLaws.{true≢false}
 use Rattle.search.proofs.labels.RelaxLaws.{nowhere_begin, nowhere_more, nowhere_end}

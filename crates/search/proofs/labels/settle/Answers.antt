@@ -1,6 +1,5 @@
 -- `search::labels::settle` meets its contract. The invariant: the row has been looked at up to place e. The measure is what is left of the row.
 -- Assumes nothing.
-use Prim.Native.Nat.{◌-◌}
 use native.Mathlib.Omega.{arith}
 use Rattle.search.proofs.SpreadRun.{row_begin, row-ready, row_more, row-end}
 use Rattle.search.proofs.labels.settle.Goals as goal

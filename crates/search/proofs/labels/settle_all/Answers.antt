@@ -36,7 +36,7 @@ overflow_sub-rest c = let t = c.loop-r-test.true in omega arith
 
 pub take-requires : goal.take-requires
 take-requires c =
-    run_take c.loop-r.invariant c.loop-r-test.true c.requires.0.few
+    let h = run_take c.loop-r.invariant c.loop-r-test.true c.requires.0.few in record { heaped = h.0; n_bound = h.1 }
 
 pub settle-r-requires : goal.settle-r-requires
 settle-r-requires c =

@@ -2,12 +2,9 @@
 -- Assumes nothing.
 use mathlib.Core.Bool.{not}
 use Rattle.std.proofs.Common.{ap}
-use mathlib.Core.Bool.{true}
 use mathlib.Core.Path.{sym}
-use Prim.Native.Nat.{◌-◌}
 use Rattle.std.proofs.Common.{rules}
 use borrow.Author.Count.{below_none, below_more}
-use Rattle.search.specs.Replies.{node_sound}
 use Rattle.search.proofs.KeptLaws.{refused, passed}
 use Rattle.search.proofs.PriceableLaws.{bad_here, bad_nowhere}
 use Rattle.search.proofs.numbers.bad_node.Goals as goal

@@ -1,7 +1,6 @@
 -- `search::queue::nearest` meets its contract. The loop's invariant: entry i is the least of all.
 -- The measure is how far i is from the end of the queue. Assumes nothing.
 use mathlib.Core.Path.{refl}
-use Prim.Native.Nat.{◌-◌}
 use Rattle.std.proofs.Common.{rules}
 use native.Mathlib.Omega.{arith}
 use Rattle.search.proofs.QueueLaws.{down_left, down_right, down_leaf}

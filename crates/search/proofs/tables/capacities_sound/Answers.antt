@@ -1,7 +1,6 @@
 -- `tables::capacities_sound` meets its contract. The loop's invariant: `fine` and the test of the capacities that are left make the test of them all.
 -- Assumes nothing.
 use mathlib.Core.Path.{sym, ◌∙◌}
-use Prim.Native.Nat.{◌-◌}
 use native.Mathlib.Omega.{arith}
 use Rattle.std.proofs.Common.{rules}
 use Rattle.search.proofs.KeptLaws.{kept-none, kept-all, fails, stays, every-next, every-end}

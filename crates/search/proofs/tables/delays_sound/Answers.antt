@@ -1,7 +1,6 @@
 -- `tables::delays_sound` meets its contract. The loop's invariant: `fine` and the test of the delays that are left make the test of them all.
 -- Assumes nothing.
 use mathlib.Core.Path.{sym, ◌∙◌}
-use Prim.Native.Nat.{◌-◌}
 use native.Mathlib.Omega.{arith}
 use lib.ListN.{get_or}
 use Rattle.std.proofs.Common.{rules}
@@ -22,8 +21,12 @@ pub loop-v-preserved : goal.loop-v-preserved
 loop-v-preserved c =
     let at = c.loop-v in
     let delays = c.args.delay.now in
+    let d = get_or delays at.v 0 in
     let next = every-next delay_sound delays at.v (search rules) in
-    (elim c.if-delay-v-gt-DELAY_MOST.branch [ then-delay-v-gt-DELAY_MOST w ↦ fails _ at.invariant next (lt-leb (get_or delays at.v 0) delay_most (omega (arith, w.if-delay-v-gt-DELAY_MOST.true))) w.fine-is | else-delay-v-gt-DELAY_MOST w ↦ stays _ at.invariant next (le-leb (get_or delays at.v 0) delay_most (omega (arith, w.if-delay-v-gt-DELAY_MOST.false))) w.fine-is ])
+    (elim c.if-delay-v-gt-DELAY_MOST.branch [
+      | then-delay-v-gt-DELAY_MOST w ↦ fails _ at.invariant next (lt-leb d delay_most (omega (arith, w.if-delay-v-gt-DELAY_MOST.true))) w.fine-is
+      | else-delay-v-gt-DELAY_MOST w ↦ stays _ at.invariant next (le-leb d delay_most (omega (arith, w.if-delay-v-gt-DELAY_MOST.false))) w.fine-is
+    ])
 
 pub returns : goal.returns
 returns c =

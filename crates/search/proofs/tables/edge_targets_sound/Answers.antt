@@ -3,14 +3,12 @@
 -- Assumes nothing.
 use mathlib.Core.Bool.{not}
 use Rattle.std.proofs.Common.{ap}
-use mathlib.Core.Bool.{true}
 use mathlib.Core.Path.{sym}
-use Prim.Native.Nat.{◌+◌, ◌-◌}
+use Prim.Native.Nat.{◌+◌}
 use native.Mathlib.Omega.{arith}
 use Rattle.std.proofs.Common.{rules}
 use borrow.Author.Count.{below_none, below_more}
 use Rattle.search.specs.Block.{row}
-use Rattle.search.specs.Tables.{row_sound}
 use Rattle.search.proofs.BlockLaws.{firsts-long, firsts-most}
 use Rattle.search.proofs.KeptLaws.{refused, passed}
 use Rattle.search.proofs.TableLaws.{edges_many, edges_bad, edges-all}

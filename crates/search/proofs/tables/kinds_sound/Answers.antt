@@ -1,7 +1,6 @@
 -- `tables::kinds_sound` meets its contract. The loop's invariant: `fine` and the test of the kinds that are left make the test of them all.
 -- Assumes nothing.
 use mathlib.Core.Path.{sym, ◌∙◌}
-use Prim.Native.Nat.{◌-◌}
 use lib.ListN.{get_or}
 use Rattle.std.proofs.Common.{rules}
 use borrow.Author.Tests.{le-leb, lt-leb}

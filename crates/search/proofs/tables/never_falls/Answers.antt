@@ -1,6 +1,5 @@
 -- `tables::never_falls` meets its contract. The loop's invariant: `fine` and the test of what is left, from the entry before place v on, make the test of the whole table.
 -- Assumes nothing.
-use Prim.Native.Nat.{◌-◌}
 use Rattle.std.proofs.Common.{rules}
 use borrow.Author.Tests.{le-leb, lt-leb}
 use Rattle.search.proofs.KeptLaws.{kept-none, kept-all, fails, stays}

@@ -2,13 +2,17 @@
 -- Assumes nothing.
 use mathlib.Core.Bool.{not}
 use mathlib.Core.Path.{refl, ◌∙◌, ap}
-use Prim.Native.Nat.{◌-◌}
+use Prim.Native.Nat.{◌+◌}
 use native.Mathlib.Omega.{arith}
+use lib.Dec.{eqb}
+use lib.ListN.{get_or}
 use lib.Seq.{slice}
 use Rattle.std.proofs.Common.{rules}
 use borrow.Author.Tests.{le-leb, lt-leb, eq-eqb, ne_eqb}
-use Rattle.search.proofs.KeptLaws.{kept_fails, kept-all, fails, stays}
-use Rattle.search.proofs.tables.RisingRowLaws.{left_whole, left-next, left_end}
+use Rattle.price.specs.Test.{both}
+use Rattle.search.specs.Tables.{row_sound}
+use Rattle.search.proofs.KeptLaws.{Kept, kept_fails, kept-all, fails, stays}
+use Rattle.search.proofs.tables.RisingRowLaws.{left_sound, left_whole, left-next, left_end}
 use Rattle.search.proofs.tables.row_sound.Goals.{else-v-low, else-v-u, then-v-low, then-v-u}
 use Rattle.search.proofs.tables.row_sound.Goals as goal
 
@@ -26,7 +30,9 @@ loop-e-preserved c =
     let at = c.loop-e in
     let a = c.args in
     let next = left-next a.n a.u at.low at.e a.to a.edge_target.now (search rules) (search rules) in
-    let risen =
+    let v = get_or a.edge_target.now at.e 0 in
+    let left = both (not (eqb v a.u)) (left_sound a.n a.u (v + 1) (slice (at.e + 1) a.to a.edge_target.now)) in
+    let risen : Kept (row_sound a.n a.u (slice a.from a.to a.edge_target.now)) c.if-v-low.fine left =
     (elim c.if-v-low.branch [ then-v-low w ↦ fails _ at.invariant next (lt-leb _ _ w.if-v-low.true) w.fine-is | else-v-low w ↦ stays _ at.invariant next (le-leb _ _ w.if-v-low.false) w.fine-is ])
     in
     (elim c.if-v-u.branch [ then-v-u w ↦ fails _ risen refl (ap not (eq-eqb _ _ w.if-v-u.true)) w.fine-is | else-v-u w ↦ stays _ risen refl (ap not (ne_eqb _ _ w.if-v-u.false)) w.fine-is ])

@@ -1,6 +1,5 @@
 -- `search::turn::fill_far` meets its contract. The invariant: the nodes below v have no label. The measure is how many are left.
 -- Assumes nothing.
-use Prim.Native.Nat.{◌-◌}
 use native.Mathlib.Omega.{arith}
 use Rattle.search.proofs.turn.TurnMarkLaws.{blank_none, blank_more, blank_all}
 use Rattle.std.proofs.Common.{rules}

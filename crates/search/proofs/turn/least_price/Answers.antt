@@ -1,9 +1,8 @@
 -- `search::turn::least_price` meets its contract. The invariant: `least` is at most the price of each goal listed before place i. The measure is what is left of the list.
 -- Assumes nothing.
-use mathlib.Core.Logic.{⊎_elim}
-use Prim.Native.Nat.{◌-◌}
 use native.Mathlib.Omega.{arith}
 use Rattle.search.proofs.turn.TurnMarkLaws.{least-none, least_more, least-all}
+use Rattle.search.proofs.turn.least_price.Goals.{then-s-n+then-work-s+then-p-least, then-s-n+then-work-s+else-p-least, then-s-n+else-work-s, else-s-n}
 use Rattle.search.proofs.turn.least_price.Goals as goal
 
 pub loop-i-init : goal.loop-i-init
@@ -30,14 +29,14 @@ loop-i-smaller c = let t = c.loop-i-test.true in omega arith
 pub loop-i-preserved : goal.loop-i-preserved
 loop-i-preserved c =
     let i = c.loop-i.invariant in
-    ⊎_elim
-    (λ w. rw w.5 (least_more i (let l = w.4.taken in omega arith) (λ h g. let e = w.3.ensures.0 in omega arith)))
-    (⊎_elim
-    (λ w. rw w.5 (least_more i (omega arith) (λ h g. let e = w.3.ensures.0 in let l = w.4.left in omega arith)))
-    (⊎_elim
-    (λ w. rw w.3 (least_more i (omega arith) (λ h g. absurd (w.2.left g))))
-    (λ w. rw w.1 (least_more i (omega arith) (λ h g. let l = w.0.left in absurd (omega arith))))))
-    c.if-s-n.branch
+    elim c.if-s-n.branch [
+      | then-s-n+then-work-s+then-p-least w ↦
+          rw w.least-is (least_more i (let l = w.if-p-least.true in omega arith) (λ h g. let e = w.clamped_price-p.ensures.0 in omega arith))
+      | then-s-n+then-work-s+else-p-least w ↦
+          rw w.least-is (least_more i (omega arith) (λ h g. let e = w.clamped_price-p.ensures.0 in let l = w.if-p-least.false in omega arith))
+      | then-s-n+else-work-s w ↦ rw w.least-is (least_more i (omega arith) (λ h g. absurd (w.if-work-s.false g)))
+      | else-s-n w ↦ rw w.least-is (least_more i (omega arith) (λ h g. let l = w.if-s-n.false in absurd (omega arith)))
+    ]
 
 pub returns : goal.returns
 returns c = least-all c.loop-i.invariant c.loop-i-test.false

@@ -1,9 +1,8 @@
 -- `search::turn::mark_goals` meets its contract. The invariant: the nodes listed before place i are marked. The measure is what is left of the list.
 -- Assumes nothing.
-use mathlib.Core.Logic.{⊎_elim}
-use Prim.Native.Nat.{◌-◌}
 use native.Mathlib.Omega.{arith}
 use Rattle.search.proofs.turn.TurnMarkLaws.{goals-none, goals_store, goals_other, goals-beyond, goals-all}
+use Rattle.search.proofs.turn.mark_goals.Goals.{else-s-n, then-s-n+else-work-s, then-s-n+then-work-s}
 use Rattle.search.proofs.turn.mark_goals.Goals as goal
 
 pub loop-i-init : goal.loop-i-init
@@ -39,12 +38,11 @@ loop-i-preserved c =
     let t = c.loop-i-test.true in
     let i = c.loop-i.invariant.1 in (
       omega arith,
-      ⊎_elim
-          (λ w. rw w.3 (goals_store i c.requires.1 w.0.taken w.2.taken))
-          (⊎_elim
-          (λ w. rw w.3 (goals_other i w.2.left))
-          (λ w. rw w.1 (goals-beyond i w.0.left)))
-          c.if-s-n.branch,
+      elim c.if-s-n.branch [
+        | then-s-n+then-work-s w ↦ rw w.work-is (goals_store i c.requires.1 w.if-s-n.true w.if-work-s.true)
+        | then-s-n+else-work-s w ↦ rw w.work-is (goals_other i w.if-work-s.false)
+        | else-s-n w ↦ rw w.work-is (goals-beyond i w.if-s-n.false)
+      ],
     )
 
 pub shape_of-work : goal.shape_of-work

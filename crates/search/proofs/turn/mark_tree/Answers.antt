@@ -1,7 +1,7 @@
 -- `search::turn::mark_tree` meets its contract. The invariant: the nodes below v are marked, and v is in the tree. The measure is how many nodes are left.
 -- Assumes nothing.
 use mathlib.Core.Path.{◌∙◌}
-use Prim.Native.Nat.{◌-◌, ◌<◌}
+use Prim.Native.Nat.{◌<◌}
 use native.Mathlib.Omega.{arith}
 use Rattle.search.proofs.turn.TurnMarkLaws.{tree-start, tree-few, tree-room, tree-put, tree_in, tree_over, tree_all}
 use Rattle.search.proofs.turn.mark_tree.Goals as goal

@@ -1,6 +1,5 @@
 -- `search::turn::pass_over` meets its contract. The invariant: no tree node stands before v. The measure is how many nodes are left.
 -- Assumes nothing.
-use Prim.Native.Nat.{◌-◌}
 use native.Mathlib.Omega.{arith}
 use Rattle.search.proofs.turn.TurnMarkLaws.{over_none, over-on}
 use Rattle.search.proofs.turn.pass_over.Goals as goal

@@ -1,6 +1,5 @@
 -- `search::turn::some_marked` meets its contract. The invariant: `some` tells of the nodes below v. The measure is how many are left.
 -- Assumes nothing.
-use Prim.Native.Nat.{◌-◌}
 use Rattle.search.proofs.turn.TurnMarkLaws.{seen_none, seen_in, seen-out, seen_all}
 use Rattle.search.proofs.turn.some_marked.Goals.{else-in_tree-v-eq1, then-in_tree-v-eq1}
 use Rattle.search.proofs.turn.some_marked.Goals as goal

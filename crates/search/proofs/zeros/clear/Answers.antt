@@ -1,7 +1,6 @@
 -- `search::zeros::clear` meets its contract: after the turns up to k, the entries from `from` to below k are zeros and the others as before.
 -- Assumes nothing.
 use mathlib.Core.Path.{◌≡◌, refl}
-use Prim.Native.Nat.{◌-◌}
 use native.Mathlib.Omega.{arith}
 use lib.ListN.{length-set}
 use Rattle.search.proofs.FillLaws.{clear_none, clear_more}
