@@ -14,4 +14,4 @@ returns c =
     let a = c.args in
     let block = block_of a.kind.now a.capacity.now a.first_edge.now a.edge_target.now in
     let congestion = congestion_of a.factor a.history.now a.others.now in
-    search_called (search_reply block congestion _ _) _ _ _ _ c.search_answer.result c.if-out-lt-OUT_ENTRIES.false c.search_answer.ensures.answers c.put_search.ensures
+    search_called (search_reply block congestion _ _) _ _ _ _ c.search-answer.result c.if-out-lt-OUT_ENTRIES.false c.search-answer.ensures.answers c.put_search.ensures

@@ -8,4 +8,4 @@ returns-then-out-lt-OUT_ENTRIES c = write_short _ _ _ c.if-out-lt-OUT_ENTRIES.tr
 
 pub returns : goal.returns
 returns c =
-    write_called _ _ _ _ _ c.if-out-lt-OUT_ENTRIES.false c.write_style.ensures.answers c.Put-written.ensures
+    write_called _ _ _ _ _ c.if-out-lt-OUT_ENTRIES.false c.write_style.ensures.answers c.put_written.ensures

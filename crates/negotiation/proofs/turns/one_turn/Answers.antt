@@ -5,9 +5,7 @@ use Rattle.negotiation.proofs.turns.OneTurnLaws.{turn-none, turn-joined, turn_ot
 use Rattle.negotiation.proofs.turns.one_turn.Goals as goal
 
 pub returns-then-sinks-eq0 : goal.returns-then-sinks-eq0
-returns-then-sinks-eq0 c =
-    let none = turn-none _ _ _ _ c.if-sinks-eq0.true in
-    record { answers = none.0; same_from = none.1 }
+returns-then-sinks-eq0 c = let h = turn-none _ _ _ _ c.if-sinks-eq0.true in record { answers = h.0; same_from = h.1 }
 
 pub found_path-found-requires : goal.found_path-found-requires
 found_path-found-requires c = record { ready = (c.requires.ready.ready, c.requires.ready.sinks_sound_lem); back_lent = c.requires.back_lent }
@@ -17,6 +15,9 @@ returns-in_default c =
     let other = turn_other c.requires.ready c.found_path-found.result.answer c.in_default.not-Joins c.found_path-found.ensures.0 in
     record { answers = other.0; same_from = other.1 }
 
+pub overflow_sub-log : goal.overflow_sub-log
+overflow_sub-log c = c.requires.ready.within
+
 pub returns-then-log-at : goal.returns-then-log-at
 returns-then-log-at c =
     let j = turn-joined c.requires.ready c.in-Joins.is c.found_path-found.ensures.0 in record { answers = turn_full j c.if-log-at.true c.requires.ready.within; same_from = j.rest }
@@ -24,6 +25,9 @@ returns-then-log-at c =
 pub bounds-sinks-p : goal.bounds-sinks-p
 bounds-sinks-p c =
     (turn-joined c.requires.ready c.in-Joins.is c.found_path-found.ensures.0).within
+
+pub overflow_cast-sinks : goal.overflow_cast-sinks
+overflow_cast-sinks c = omega (arith, c.type_inv.sinks c.in-Joins.place)
 
 pub write_record-requires : goal.write_record-requires
 write_record-requires c =
@@ -35,11 +39,12 @@ mark_path-requires c =
     (j.long, j.nodes-below)
 
 pub turn_logged-requires : goal.turn_logged-requires
-turn_logged-requires c = (
-  omega (arith, c.well_formed, c.requires.ready.within, c.requires.ready.few-turns),
-  omega (arith, c.well_formed, c.requires.ready.within),
-  turn-counts c.requires.ready c.found_path-found.ensures.1,
-)
+turn_logged-requires c =
+    let counts = turn-counts c.requires.ready c.found_path-found.ensures.1 in (
+      omega (arith, c.if-log-at.false, c.requires.ready.within, c.requires.ready.few-turns),
+      omega (arith, c.if-log-at.false, c.requires.ready.within),
+      counts,
+    )
 
 pub returns : goal.returns
 returns c =
