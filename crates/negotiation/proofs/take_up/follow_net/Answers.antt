@@ -120,7 +120,11 @@ pub slice_bounds-missing_sink-end-in-loop-place : goal.slice_bounds-missing_sink
 slice_bounds-missing_sink-end-in-loop-place c = part-within _ (asked (goal.at.slice_bounds-missing_sink-end-in-loop-place c).Else-turns-eq0).opens
 
 pub missing_sink-place-requires-in-loop-place : goal.missing_sink-place-requires-in-loop-place
-missing_sink-place-requires-in-loop-place c = record { all_below = part-below _ (asked (goal.at.missing_sink-place-requires-in-loop-place c).Else-turns-eq0).opens _ (marks_long (goal.at.missing_sink-place-requires-in-loop-place c).After-follow_tried-tried); from_in_bounds = c.loop-place.invariant.1.within }
+missing_sink-place-requires-in-loop-place c =
+    let at = goal.at.missing_sink-place-requires-in-loop-place c in record {
+      all_below = part-below _ (asked at.Else-turns-eq0).opens _ (marks_long at.After-follow_tried-tried);
+      from_in_bounds = c.loop-place.invariant.1.within;
+    }
 
 pub loop-place-smaller : goal.loop-place-smaller
 loop-place-smaller c = let some = some_of _ c.if-left-eq0.false in omega arith

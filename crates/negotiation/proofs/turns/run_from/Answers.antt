@@ -1,11 +1,10 @@
 -- `negotiation::turns::run_from` meets its contract: a run that goes on does so from the progress of its start, and a log that is turned away is 14.
 -- Assumes nothing.
-use mathlib.Core.List.{List, [], ◌∷◌}
+use mathlib.Core.List.{List}
 use mathlib.Core.Path.{◌∙◌, sym, ap}
 use Prim.Native.Nat.{ℕ, ◌*◌, ◌≤◌}
 use native.Mathlib.Omega.{arith}
 use lib.ListN.{length}
-use types.Run.{miss}
 use Rattle.search.proofs.BlockLaws.{kinds-few}
 use Rattle.job.specs.Job.{Job, job_of}
 use Rattle.negotiation.specs.Outcome.{RouteReply, route_reply_of, turns_logged}
