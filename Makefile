@@ -24,12 +24,12 @@ RUST := $(shell find rust -path '*/target' -prune -o -type f -print)
 
 all: $(COMMAND) $(PROGRAMS:%=target/bin/%) $(LIBRARY)
 
-# `rt staticlib` proves its crates each time it is called, so it is called only where a source is newer than the library.
+# `tools/build capi` proves its crates each time it is called, so it is called only where a source is newer than the library.
 target/staticlib/libcapi.a: $(SOURCES)
-	rt staticlib capi
+	tools/build capi
 
 target/bin/%: $(SOURCES)
-	rt check $*
+	tools/build $*
 	touch $@
 
 $(COMMAND): $(RUST) $(LIBRARY)

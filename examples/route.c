@@ -7,7 +7,7 @@
  *   -l      the log is printed in place of the routes, a line for each record (docs/FORMAT.md, section 4); also that of a run which
  *           log or limit stopped, before the line of the refusal
  *
- *     rt staticlib capi
+ *     tools/build capi
  *     cc -Iinclude examples/route.c target/staticlib/libcapi.a -o target/route
  *     target/route < examples/job_b.txt
  *     sed 1s/2$/1/ examples/job_b.txt | target/route 2

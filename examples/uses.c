@@ -2,7 +2,7 @@
  * a line U,kind,uses,capacity for each kind. The first text that can't be taken ends it with a message and status 1, and
  * nothing is printed to standard output. See include/arvumnao.h.
  *
- *     rt staticlib capi
+ *     tools/build capi
  *     cc -Iinclude examples/uses.c target/staticlib/libcapi.a -o target/uses
  *     target/uses examples/uses_1.txt examples/uses_2.txt examples/uses_3.txt
  */

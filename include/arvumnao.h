@@ -37,7 +37,7 @@
  *         return 0;
  *     }
  *
- * Build it: rt staticlib capi && cc -Iinclude FILE.c target/staticlib/libcapi.a
+ * Build it: tools/build capi && cc -Iinclude FILE.c target/staticlib/libcapi.a
  *
  * MEMORY. A slice is a pointer and a count of entries, aligned as C aligns its type. An empty slice may have any
  * pointer, also NULL. A slice that a call may write to (one without const) must not overlap any other slice of that

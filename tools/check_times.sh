@@ -37,7 +37,7 @@ PY
 TIMEFORMAT="%U %S"
 all=0
 for crate in $(in_order "$@"); do
-    spent=$({ time rt check "$crate" >"$clone/log" 2>&1; } 2>&1) || { cat "$clone/log" >&2; echo "$crate is not proved" >&2; exit 1; }
+    spent=$({ time (cd "crates/$crate" && rt check) >"$clone/log" 2>&1; } 2>&1) || { cat "$clone/log" >&2; echo "$crate is not proved" >&2; exit 1; }
     seconds=$(awk '{ printf "%.1f", $1 + $2 }' <<<"$spent")
     printf '%-24s %8s\n' "$crate" "$seconds"
     all=$(awk -v a="$all" -v b="$seconds" 'BEGIN { printf "%.1f", a + b }')

@@ -1,8 +1,8 @@
 #!/usr/bin/env python3
 """Where the check of a crate spends its time: tools/module_times.py CRATE [LINES]
 
-`rt dev CRATE` writes each module as soon as it is checked, so the times of its files tell how long each took. Remove target/inc/CRATE, run
-`rt dev CRATE` on a machine with no other work, then this. Times are of the clock, by function or file of laws, and by module."""
+`rt check` writes each module as soon as it is checked, so the times of its files tell how long each took. Remove crates/CRATE/out, run
+`rt check --jobs 1` in crates/CRATE on a machine with no other work, then this. Times are of the clock, by function or file of laws, and by module."""
 import collections
 import os
 import sys
@@ -25,10 +25,10 @@ def owner(module):
 
 def main():
     crate, lines = sys.argv[1], int(sys.argv[2]) if len(sys.argv) > 2 else 20
-    files = written(os.path.join("target", "inc", crate))
+    files = written(os.path.join("crates", crate, "out", "incremental"))
     modules = collections.Counter()
     for (before, _), (after, name) in zip(files, files[1:]):
-        modules[name.replace(".decls", "").removesuffix(".oantt").replace("Rattle·", "")] += after - before
+        modules[name.replace(".decls", "").removesuffix(".oantt").replace("Rattle.", "")] += after - before
     owners = collections.Counter()
     for module, spent in modules.items():
         owners[owner(module)] += spent

@@ -2,7 +2,7 @@
 """Whether the documents name what is there: tools/names.py
 
 Every name in backticks in README.md, CONTRIBUTING.md and docs/*.md stands in the tree, as a word of a source or as a file, and every
-relative link leads to a file, its anchor to a heading. Prints each that doesn't and answers 1. The notes in docs/changes name things as they were and are left out,
+relative link leads to a file, its anchor to a heading. Prints each that doesn't and answers 1. docs/PORT.md and the notes in docs/changes name things as they were and are left out,
 but for their links."""
 import pathlib
 import re
@@ -14,7 +14,7 @@ ROOT = pathlib.Path(__file__).resolve().parent.parent
 SOURCES = (".rt", ".antt", ".rs", ".c", ".h", ".py", ".sh", ".toml", ".edit", ".txt", ".in", ".1", "Makefile")
 FENCE = re.compile(r"^```.*?^```", re.M | re.S)
 # names of the toolchain, of the system and of packages
-ELSEWHERE = {"graphviz", "rattle-kit-5b-plain", "Lts.antt", "Lts", "Denote/Examples/Count.antt", "TMPDIR", "perf", "NULL", "clippy", "rustfmt"}
+ELSEWHERE = {"graphviz", "grind", "rattle-kit-13f", "port.py", "Lts.antt", "Lts", "Denote/Examples/Count.antt", "TMPDIR", "perf", "NULL", "clippy", "rustfmt"}
 NAME = re.compile(r"[A-Za-z_][\w·-]*['′]?")
 
 
@@ -96,7 +96,7 @@ def main():
         tails.update("/".join(bits[i:k]) for i in range(len(bits)) for k in range(i + 1, len(bits) + 1))
         # an edit is named without its ending
         tails.add(bits[-1].removesuffix(".edit"))
-    documents = [ROOT / "README.md", ROOT / "CONTRIBUTING.md"] + sorted((ROOT / "docs").glob("*.md"))
+    documents = [ROOT / "README.md", ROOT / "CONTRIBUTING.md"] + sorted(p for p in (ROOT / "docs").glob("*.md") if p.name != "PORT.md")
     faults = []
     for path in documents:
         faults += [f"{path.relative_to(ROOT)}: {what}" for what in [*bad_names(path, known, tails), *bad_links(path)]]

@@ -1,42 +1,22 @@
 #!/usr/bin/env python3
-"""Writes the proof file that rt prints for each function without one, holes and all: tools/skeletons.py CRATE
+"""Writes the files to start a proof from, holes and all, for each function without one: tools/skeletons.py CRATE
 
-A caller's lines are printed only once its callees have files, so it repeats until nothing new is printed.
-"""
-import os
+`rt check --start` writes them for a function that is named; this names all those of which a check says that they have no proof."""
+import pathlib
 import re
 import subprocess
 import sys
 
 
-def printed(text):
-    """The files that the check asks for: path and lines."""
-    lines = text.split("\n")
-    i = 0
-    while i < len(lines):
-        asked = re.match(r"help: write (\S+/Proof\.antt) with these lines", lines[i])
-        i += 1
-        if not asked:
-            continue
-        body = []
-        while i < len(lines) and (lines[i].startswith("    ") or not lines[i].strip()):
-            body.append(lines[i][4:])
-            i += 1
-        yield asked.group(1), "\n".join(body).strip("\n") + "\n"
-
-
 def main(crate):
-    new = 1
-    while new:
-        run = subprocess.run(["rt", "dev", crate, "--allow-holes"], capture_output=True, text=True)
-        new = 0
-        for path, body in printed(run.stdout + run.stderr):
-            if not os.path.exists(path):
-                os.makedirs(os.path.dirname(path), exist_ok=True)
-                with open(path, "w") as file:
-                    file.write(body)
-                new += 1
-        print(f"{new} new files", flush=True)
+    folder = pathlib.Path(__file__).resolve().parent.parent / "crates" / crate
+    said = subprocess.run(["rt", "check"], cwd=folder, capture_output=True, text=True, errors="replace").stdout
+    lacking = re.findall(r"^fn (\S+): no proof", said, re.M)
+    if not lacking:
+        print("every function has a proof, or a file for one")
+        return 0
+    return subprocess.run(["rt", "check", *[word for name in lacking for word in ("--start", name)]], cwd=folder).returncode
 
 
-main(sys.argv[1])
+if __name__ == "__main__":
+    sys.exit(main(sys.argv[1]))

@@ -22,7 +22,7 @@ use Rattle.search.specs.Paths.{Fair}
 use Rattle.search.specs.Turn.{Congestion, price_at, Turn, joins, stuck, nearest_distance, turn}
 use Rattle.search.specs.Replies.{cleared, refusal_of, too_many, bad_criticality, sink_list_sound, faulty_with_delays, faulty_with_sinks, PathReply, turn_numbers, turn_path, read_off, path_due, path_reply, path_reply_of}
 use Rattle.search.specs.Distance.{far}
-use Rattle.search.specs.Aimed.{weight_at, expands, expanded_by, expanded}
+use Rattle.search.specs.Aimed.{weight_at, expands, expanded_by}
 use Rattle.search.specs.AimedReplies.{AimedPathReply, aimed_path_reply, aimed_path_reply_of}
 use Rattle.search.specs.declared.AimedPath.{AimedPath}
 use Rattle.search.specs.declared.PathAnswer.{PathAnswer}

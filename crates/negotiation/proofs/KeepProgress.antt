@@ -1,7 +1,7 @@
 -- The lists follow any progress, whoever makes its turns: the nets that are due are marked, such a net drops its old tree, its new one counts, and
 -- after an iteration the histories move on.
 -- Assumes nothing.
-use mathlib.Core.Bool.{true, false, not}
+use mathlib.Core.Bool.{true, not}
 use mathlib.Core.List.{List, [], ◌∷◌, ◌++◌}
 use mathlib.Core.Path.{◌≡◌, refl, sym, ◌∙◌, ap, subst}
 use Prim.Native.Nat.{ℕ, ◌+◌, ◌-◌, ◌<◌}

@@ -17,7 +17,8 @@ use Rattle.search.specs.Turn.{Congestion, congested_at, price_at, Turn, joins, s
 use Rattle.job.specs.Job.{Job, nodes, nets, source, net_sinks, net_criticalities}
 use Rattle.negotiation.specs.Records.{Record}
 use Rattle.negotiation.specs.Order.{turn_sinks, turn_weighting, turn_congestion}
-use Rattle.negotiation.specs.Machine.{State, Progress, others_of, users_of, marks_of, congestion_for, turn_of, log_turn, turns_of, net_records, tree_from, has_sinks, all_due, crowded, due, route_if, after_nets, iterate, overfull, over_count, move_on, first_state, state_after, records_after, settles_at}
+use Rattle.negotiation.specs.Machine.{State, Progress, others_of, users_of, marks_of, congestion_for, turn_of, log_turn, turns_of, net_records, tree_from, has_sinks, all_due}
+use Rattle.negotiation.specs.Machine.{crowded, due, route_if, after_nets, iterate, overfull, over_count, move_on, first_state, state_after, records_after, settles_at}
 use Rattle.negotiation.specs.Outcome.{RouteReply, has_path, unreachable_net, unreachable_place, iterations_made, iterations_left, made_from, first_progress, all_records, logged_records, cut_iteration, end_numbers, continued, reached_reply}
 use Rattle.negotiation.specs.Resume.{path_follows, record_path, record_in, turn_price, turn_follows, all_joined, least_cost, Replay, on, off, ends, not_cheapest, if_on, since_start, after, replay_turns, replay_nets, replay_next, replay_from, replay_by, replay, resumed_reply}
 use Rattle.negotiation.specs.OlderJobs.{SameCosts, with_kinds}

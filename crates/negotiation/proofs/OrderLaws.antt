@@ -14,7 +14,6 @@ use lib.Seq.{length-slice, get_or-drop, get_or-take}
 use borrow.Author.Tests.{eq-eqb, eqb-true, ltb-true, lt-ltb}
 use Rattle.price.specs.Bounds.{criticality_most}
 use Rattle.price.specs.Lists.{has}
-use Rattle.price.specs.Timed.{untimed}
 use Rattle.price.proofs.TestLaws.{by_test, le_or_lt, true≢false}
 use Rattle.price.proofs.ListLaws.{has-at, has_place, has_append_left, has_append_right}
 use Rattle.search.proofs.DistinctLaws.{has_cons, has_first, has_rest}

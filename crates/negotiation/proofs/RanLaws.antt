@@ -3,7 +3,7 @@
 use mathlib.Core.Bool.{true, false, not}
 use mathlib.Core.List.{List, [], ◌∷◌, ◌++◌, append-nil, append_assoc}
 use mathlib.Core.Logic.{⊎_elim}
-use mathlib.Core.Path.{◌≡◌, refl, sym, ◌∙◌, ap}
+use mathlib.Core.Path.{◌≡◌, refl, sym, ◌∙◌, ap, subst}
 use Prim.Native.Nat.{ℕ, suc, ◌+◌, ◌≤◌, ◌<◌}
 use native.Mathlib.Nat.{not-suc-le-zero, le_of_suc-le-suc, le_refl, eq-or-lt_of_le, max-zero}
 use native.Mathlib.Omega.{arith}
@@ -214,7 +214,10 @@ module _ (j : Job) where
       let cut : up_to_iteration (suc m) ((rs ++ p.records) ++ more) ≡ rs ++ p.records =
       up_to_append (suc m) (rs ++ p.records) more
       ∙ rw (up_to_all (suc m) (rs ++ p.records) (ran-all j (next r n)), up_to_none (suc m) more later) (append-nil (rs ++ p.records)) in
-      rw (cut, append_assoc rs p.records more, ran_history r (p.records ++ more) here v h, ran-users (next r n) v, ← nets-histories j n)
+      let earlier : history_read j ((rs ++ p.records) ++ more) m v ≡ get_or s.histories v 0 =
+      subst (λ (xs : List Record). history_read j xs m v ≡ get_or s.histories v 0) (sym (append_assoc rs p.records more))
+      (ran_history r (p.records ++ more) here v h) in
+      rw (cut, earlier, ran-users (next r n) v, ← nets-histories j n)
       (sym (get_or_up_to (λ u. next_history j.terms.tuning (get_or p.state.histories u 0) (users_of j p.state.trees u) (get_or j.block.capacities u 0)) (nodes j) v 0 h))
 
 -- ---- before a turn

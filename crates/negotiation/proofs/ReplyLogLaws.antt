@@ -1,6 +1,5 @@
 -- The log of a reply as the records whose words it holds: where its records are a beginning of another's, its log is, and which of a run's records fit it.
 -- Assumes nothing.
-use mathlib.Core.Bool.{true, false}
 use mathlib.Core.List.{List, [], ◌∷◌, ◌++◌, append_assoc}
 use mathlib.Core.Logic.{◌⊎◌, inl, inr}
 use mathlib.Core.Path.{◌≡◌, refl, sym, ◌∙◌, ap}

@@ -3,7 +3,7 @@
 use mathlib.Core.Bool.{Bool, true, false, not}
 use mathlib.Core.List.{List, []}
 use mathlib.Core.Logic.{⊎_elim}
-use mathlib.Core.Path.{◌≡◌, refl, sym, ◌∙◌, ap}
+use mathlib.Core.Path.{◌≡◌, refl, sym, ◌∙◌, ap, subst}
 use Prim.Native.Nat.{ℕ, zero, suc, ◌+◌, ◌-◌, ◌≤◌, ◌<◌}
 use native.Mathlib.Nat.{not-suc-le-zero, le_of_suc-le-suc, eq-or-lt_of_le}
 use native.Mathlib.Omega.{arith}
@@ -35,7 +35,8 @@ count_with t (suc n) i h =
     (λ (e : i ≡ n).
     let same : count_below t n ≡ count_below (λ k. both (not (eqb k n)) (t k)) n =
     count_same t (λ k. both (not (eqb k n)) (t k)) n (λ k l. rw (ne_eqb k n (λ q. omega arith))) in
-    rw (e, eq-eqb n n refl) (omega arith))
+    subst (λ (x : ℕ). count_below t (suc n) ≡ count_below (λ k. both (not (eqb k x)) (t k)) (suc n) + choose (t x) 1 0) (sym e)
+    (rw (eq-eqb n n refl) (omega arith)))
     (λ (l : i < n).
     let rest = count_with t n i l in
     rw (ne_eqb n i (λ q. omega arith)) (omega arith))

@@ -1,7 +1,8 @@
 -- Demand 3, whole, as one statement about a call: its job, its log and its answer. Only its first clause mentions the machine: trees and
 -- prices are read off the log as document 01's section "Trees and prices read off the log" says.
 -- Assumes nothing.
-use Rattle.std.specs.Prelude.{Bool, true, not, List, [], ◌∷◌, ◌++◌, ◌≡◌, ℕ, zero, suc, ◌+◌, ◌-◌, ◌^◌, ◌≤◌, ◌<◌, max, eqb, leb, length, get_or, drop}
+use Rattle.std.specs.Prelude.{Bool, true, not, List, [], ◌∷◌, ◌++◌, ◌≡◌, ℕ, zero, suc, ◌+◌, ◌-◌, ◌^◌, ◌≤◌, ◌<◌, max, eqb, leb, length}
+use Rattle.std.specs.Prelude.{get_or, drop}
 use Rattle.price.specs.Test.{choose, both}
 use Rattle.price.specs.Bounds.{price_most, path_most, timed_price_most}
 use Rattle.price.specs.Lists.{has, distinct, count_below}

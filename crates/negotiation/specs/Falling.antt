@@ -29,4 +29,5 @@ pub record OneDue (j : Job) (i : ℕ) (tree : List ℕ) : Type 0 where
 abbrev pub SinksFall : Job → Type 0
 SinksFall j =
     SoundJob j → exceeds (nodes j) j.terms ≡ false → j.terms.timed ≡ true
-    → (i sink : ℕ) (tree : List ℕ) → i < nets j → has sink (net_sinks (joined j) i) ≡ true → has sink tree ≡ false → OneDue (joined j) i tree
+    → (i sink : ℕ) (tree : List ℕ) → i < nets j → has sink (net_sinks (joined j) i) ≡ true → has sink tree ≡ false
+    → OneDue (joined j) i tree

@@ -30,7 +30,8 @@ listed_count first_sinks k = get_or first_sinks (k + 1) 0 - get_or first_sinks k
 -- what net k adds to the places taken for a net: those it lists, where its source is that net's
 abbrev pub with_listed : List ℕ → List ℕ → List ℕ → ℕ → ℕ → List ℕ → List ℕ
 with_listed sources first_sinks sinks net k taken =
-    choose (eqb (get_or sources k 0) (get_or sources net 0)) (taking sinks taken (listed_places (nets_only sources first_sinks sinks) k)) taken
+    choose (eqb (get_or sources k 0) (get_or sources net 0))
+    (taking sinks taken (listed_places (nets_only sources first_sinks sinks) k)) taken
 
 -- While a net takes places: those of the nets before it stand first, then its own, and a sink that stands at one of its own is stamped.
 pub record PlacesTaken (stamp : ℕ) (sinks before taken seen places : List ℕ) (count : ℕ) : Type 0 where

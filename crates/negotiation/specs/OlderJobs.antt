@@ -103,7 +103,8 @@ pub record TurnsKept (j : Job) : Type 0 where
 -- what prices a turn of net i in iteration t, read off the earlier records
 unfoldable pub congestion_read : Job → ℕ → ℕ → List Record → Congestion
 congestion_read j i t earlier =
-    congestion_of (factor_at j.terms.tuning t) (up_to (history_read j earlier (t - 1)) (nodes j)) (up_to (others_read j i earlier) (nodes j))
+    congestion_of (factor_at j.terms.tuning t) (up_to (history_read j earlier (t - 1)) (nodes j))
+    (up_to (others_read j i earlier) (nodes j))
 
 -- what the turn at 01's prices logs after the earlier records is this record: its sink, cost and path
 abbrev pub OlderTurn : Job → List Record → Record → Type 0

@@ -27,7 +27,8 @@ unreachable_net j = first_below (λ i. not (every (has_path j i) (net_sinks j i)
 
 unfoldable pub unreachable_place : Job → ℕ
 unreachable_place j =
-    first_below (λ p. not (has_path j (unreachable_net j) (get_or (net_sinks j (unreachable_net j)) p 0))) (length (net_sinks j (unreachable_net j)))
+    first_below (λ p. not (has_path j (unreachable_net j) (get_or (net_sinks j (unreachable_net j)) p 0)))
+    (length (net_sinks j (unreachable_net j)))
 
 -- how many iterations a run from a state makes under a limit of so many: up to the first that settles
 unfoldable pub iterations_made : Job → State → ℕ → ℕ

@@ -222,19 +222,20 @@ abbrev pub NetsTaken : Walk → Taken → (j : Job) (p : Progress) (history user
 NetsTaken walk (On t) j p history users marks from to log = NetsOn walk.audit j p (nets j) t history users marks from to log
 NetsTaken walk (Off word) j p history users marks from to log = replay_nets walk.audit j log p.state p.records (nets j) ≡ off word
 NetsTaken walk (Ends told) j p history users marks from to log = NetsEnd walk j p log told ends
-NetsTaken walk (NotCheapest told cost least) j p history users marks from to log = NetsEnd walk j p log told (λ q. not_cheapest q cost least)
+NetsTaken walk (NotCheapest told cost least) j p history users marks from to log =
+    NetsEnd walk j p log told (λ q. not_cheapest q cost least)
 
 -- under all such terms
 abbrev pub NetsAnswered :
     Walk → (kinds capacities first_edges edge_targets sources first_sinks sinks delays criticalities : List ℕ) (timed : Bool) (t : Tariff)
     (history users marks from to dues log : List ℕ) (r : Taken) (users' marks' from' to' : List ℕ) → Type 0
-NetsAnswered walk kinds capacities first_edges edge_targets sources first_sinks sinks delays criticalities timed t history users marks from to
-    dues log r users' marks' from' to' =
+NetsAnswered walk kinds capacities first_edges edge_targets sources first_sinks sinks delays criticalities timed t history users
+    marks from to dues log r users' marks' from' to' =
     (terms : Terms) (p : Progress) → timed ≡ terms.timed
     → NetsOpen (job_of kinds capacities first_edges edge_targets sources first_sinks sinks delays criticalities terms) p t history users
     marks from to dues log
-    → NetsTaken walk r (job_of kinds capacities first_edges edge_targets sources first_sinks sinks delays criticalities terms) p history users'
-    marks' from' to' log
+    → NetsTaken walk r (job_of kinds capacities first_edges edge_targets sources first_sinks sinks delays criticalities terms) p history
+    users' marks' from' to' log
 
 -- ---- the iterations
 

@@ -3,7 +3,8 @@
 -- Assumes nothing.
 use Rattle.std.specs.Prelude.{true, List, ◌≡◌, ℕ, ◌*◌, ◌≤◌, ltb, length, get_or}
 use Rattle.price.specs.Test.{choose}
-use Rattle.price.specs.Bounds.{kind_most, factor_most, others_most, capacity_most, nodes_most, delay_most, criticality_most, timed_nodes_most}
+use Rattle.price.specs.Bounds.{kind_most, factor_most, others_most, capacity_most, nodes_most, delay_most, criticality_most}
+use Rattle.price.specs.Bounds.{timed_nodes_most}
 use Rattle.price.specs.Prices.{base_cost, price_of}
 use Rattle.price.specs.Timed.{weighed, history_bound}
 use Rattle.price.specs.declared.Weighting.{Weighting}

@@ -142,4 +142,5 @@ pub record SinksGiven (r : Block) (base : ℕ → ℕ) (scale : ℕ) (marks sink
       (v : ℕ) → v < nodes r
       → ((estimate_at (nodes r) w' v ≡ far) × (waits lined v ≡ false)) ⊎ SinkGiven r marks sinks w' (waits lined) v
   pub goals :
-      (j : ℕ) → j < i → get_or sinks j 0 < nodes r → tree_has marks (get_or sinks j 0) ≡ false → estimate_at (nodes r) w' (get_or sinks j 0) ≡ 0
+      (j : ℕ) → j < i → get_or sinks j 0 < nodes r → tree_has marks (get_or sinks j 0) ≡ false
+      → estimate_at (nodes r) w' (get_or sinks j 0) ≡ 0

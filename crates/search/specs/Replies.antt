@@ -1,6 +1,7 @@
 -- What the calls of the search answer and leave in the work slice, as the numbers of document 01's table "Numbers for a stopped call".
 -- Assumes nothing.
-use Rattle.std.specs.Prelude.{Bool, true, false, not, List, [], ◌∷◌, ◌++◌, ℕ, ◌+◌, ◌*◌, ◌-◌, ◌<◌, leb, ltb, eqb, length, get_or, take, drop, replicate}
+use Rattle.std.specs.Prelude.{Bool, true, false, not, List, [], ◌∷◌, ◌++◌, ℕ, ◌+◌, ◌*◌, ◌-◌, ◌<◌, leb, ltb, eqb, length, get_or, take}
+use Rattle.std.specs.Prelude.{drop, replicate}
 use Rattle.price.specs.Test.{choose, both}
 use Rattle.price.specs.Bounds.{factor_most, others_most, nodes_most, criticality_most, timed_nodes_most}
 use Rattle.price.specs.Lists.{every, first_below}

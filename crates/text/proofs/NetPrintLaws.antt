@@ -205,7 +205,7 @@ module _
           vs = i ∷ get_or ts p 0 ∷ further timed c;
           reader = record { few = few; least = λ k h. let same : k ≡ i = omega arith in rw same (omega arith); most = omega arith };
           text =
-              rw (slice-cons p (get_or fs m 0) ts 0 below within, slice-cons p (get_or fs m 0) cs 0 below within', place)
+              rw (place, slice-cons p (get_or fs m 0) ts 0 below within, slice-cons p (get_or fs m 0) cs 0 below within')
               (append_assoc (print_line letter_t (i ∷ get_or ts p 0 ∷ further timed c)) (sink_lines timed i (slice (suc p) (get_or fs m 0) ts) (slice (suc p) (get_or fs m 0) cs)) (concat_from (net_at timed ss fs ts cs) m (length ss - m)));
           reads =
               sink_read kinds n (length ss) (lists_at ss fs ts cs m p) nodes-few nets-few timed i (get_or ts p 0) c (text_at timed ss fs ts cs m (suc p))

@@ -3,7 +3,7 @@
 use mathlib.Core.Bool.{true}
 use mathlib.Core.List.{List, ◌++◌}
 use mathlib.Core.Logic.{⊎_elim}
-use mathlib.Core.Path.{◌≡◌, refl, sym, ◌∙◌}
+use mathlib.Core.Path.{◌≡◌, refl, sym, ◌∙◌, ap}
 use Prim.Native.Nat.{ℕ, ◌+◌, ◌*◌, ◌≤◌, ◌<◌}
 use native.Mathlib.Numerals.{add-one}
 use native.Mathlib.Omega.{arith}
@@ -59,7 +59,11 @@ module _ {kinds weights before now : List ℕ} {v : ℕ} (t : Tallying kinds wei
         long = length-set now here (get_or now here 0 + get_or weights v 0) ∙ t.long;
         each = λ k.
             ⊎_elim
-            (λ (e : here ≡ k). rw (add-one, eq-eqb here k e, ← e) (omega (arith, get_or-set_same now here (get_or now here 0 + get_or weights v 0) 0 room, t.each here)))
+            (λ (e : here ≡ k).
+            let more : ℕ = get_or now here 0 + get_or weights v 0 in
+            let put : get_or (set now here more) k 0 ≡ more = rw (← e) (get_or-set_same now here more 0 room) in
+            let had : get_or now here 0 ≡ get_or now k 0 = ap (λ (x : ℕ). get_or now x 0) e in
+            rw (add-one, eq-eqb here k e) (omega (arith, put, had, t.each k)))
             (λ (e : here ≡ k → ⊥). rw (add-one, ne_eqb here k e) (omega (arith, get_or-set_other now here k (get_or now here 0 + get_or weights v 0) 0 (λ q. e (sym q)), t.each k)))
             (same_or_not here k);
         low = λ k h.

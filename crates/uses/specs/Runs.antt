@@ -72,7 +72,8 @@ pub data Reordered : List (List ℕ) → List (List ℕ) → Type 0 where
 -- "The order of accepted logs doesn't matter.": in another order they are accepted too, and leave the same counts
 abbrev pub OrderFree : Block → Type 0
 OrderFree b =
-    (c : UseCounts) (xs ys : List (List ℕ)) → Reordered xs ys → Accepted b c xs → Accepted b c ys × (after_calls b c xs ≡ after_calls b c ys)
+    (c : UseCounts) (xs ys : List (List ℕ)) → Reordered xs ys → Accepted b c xs
+    → Accepted b c ys × (after_calls b c xs ≡ after_calls b c ys)
 
 -- the counts of two runs, added entry by entry, and their logs with them
 unfoldable pub together : UseCounts → UseCounts → UseCounts

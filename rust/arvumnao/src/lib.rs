@@ -47,7 +47,7 @@
 //! `docs/FORMAT.md` describes the texts, the log and every refusal. [`raw`] has the library's calls themselves, for callers with
 //! memory of their own.
 //!
-//! Build the library first, by `rt staticlib capi`. It is expected in `target/staticlib` two folders above this package, or in
+//! Build the library first, by `tools/build capi`. It is expected in `target/staticlib` two folders above this package, or in
 //! the folder that the environment variable `ARVUMNAO_LIB_DIR` names.
 //!
 //! Calls share nothing, so any number of threads may call at the same time. A call needs [`raw::STACK`] bytes of stack; Rust's

@@ -26,12 +26,12 @@ pub struct Program {
 }
 
 impl Program {
-    /// The one of this name in the folder ARVUMNAO_PROGRAMS, else where `rt check` builds it.
+    /// The one of this name in the folder ARVUMNAO_PROGRAMS, else where `tools/build` puts it.
     pub fn find(name: &str) -> Result<Program, String> {
         let built = concat!(env!("CARGO_MANIFEST_DIR"), "/../../target/bin");
         let path = PathBuf::from(std::env::var_os("ARVUMNAO_PROGRAMS").unwrap_or(built.into())).join(name);
         if !path.exists() {
-            return Err(format!("{} is missing: build it with rt check {name}", path.display()));
+            return Err(format!("{} is missing: build it with tools/build {name}", path.display()));
         }
         let file = std::env::temp_dir().join(format!("arvumnao-{name}-{}", std::process::id()));
         Ok(Program { path, file })

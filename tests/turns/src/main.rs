@@ -19,7 +19,7 @@ const SEED: u64 = 1;
 /// So many cases of at most nine nodes fit what the program reads.
 const TURNS: usize = 160;
 
-/// The program in the folder ARVUMNAO_PROGRAMS, else where `rt check` builds it.
+/// The program in the folder ARVUMNAO_PROGRAMS, else where `tools/build` puts it.
 fn program() -> PathBuf {
     let built = concat!(env!("CARGO_MANIFEST_DIR"), "/../../target/bin");
     PathBuf::from(std::env::var_os("ARVUMNAO_PROGRAMS").unwrap_or(built.into())).join("search_test")

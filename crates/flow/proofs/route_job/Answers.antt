@@ -9,10 +9,10 @@ use Rattle.negotiation.specs.declared.Outcome.{Outcome}
 use Rattle.text.specs.ReadReplies.{Tables}
 use Rattle.flow.specs.RunReplies.{lent_of, run_reply_with, route_run}
 use Rattle.flow.proofs.RunLaws.{words_fit, never_found, run_accepted, run_refused}
-use Rattle.flow.proofs.route_job.Goals.{After-route-r, Start}
+use Rattle.flow.proofs.route_job.Goals.{After-route-r}
 use Rattle.flow.proofs.route_job.Goals as goal
 
-abbrev job : Start → Job
+abbrev job : After-route-r → Job
 job c =
     let a = c.args in
     job_of a.kind.now a.capacity.now a.first_edge.now a.edge_target.now a.source.now a.first_sink.now a.sink.now
@@ -26,23 +26,25 @@ abbrev log-left : After-route-r → List ℕ
 log-left c = c.route-r.new.log
 
 -- a job that the router refuses
-refused : (c : After-route-r) (k : ℕ) (ks : List ℕ) (o : Outcome) → c.route.result.outcome ≡ o
-    → route_refusal o c.route.result.iteration c.route.result.turns ≡ k ∷ ks → (t : Tables)
-    → run_reply_with (k ∷ ks) 0 (lent_of t (work-left c) (log-left c) (entry c).args.routes.now)
-    ≡ route_run (entry c).args.style (job (entry c)) t (entry c).args.work.now (entry c).args.log.now (entry c).args.routes.now
+refused : (c : After-route-r) (k : ℕ) (ks : List ℕ) (o : Outcome) → c.route-r.result.outcome ≡ o
+    → route_refusal o c.route-r.result.iteration c.route-r.result.turns ≡ k ∷ ks → (t : Tables)
+    → run_reply_with (k ∷ ks) 0 (lent_of t (work-left c) (log-left c) c.args.routes.now)
+    ≡ route_run c.args.style (job c) t c.args.work.now c.args.log.now c.args.routes.now
 refused c =
-    let a = (entry c).args in
-    run_refused (job (entry c)) a.work.now a.log.now c.route.result (work-left c) (log-left c) c.route.ensures.0.as_negotiated a.style a.routes.now
+    let a = c.args in
+    run_refused (job c) a.work.now a.log.now c.route-r.result (work-left c) (log-left c) c.route-r.ensures.demand.as_negotiated a.style a.routes.now
 
 pub write_used-requires : goal.write_used-requires
 write_used-requires c =
     let a = c.args in
-    words_fit (job (goal.at.write_used-requires c).Start) a.work.now a.log.now c.route-r.result (work-left (goal.at.write_used-requires c).After-route-r) (log-left (goal.at.write_used-requires c).After-route-r) c.route-r.ensures.demand.as_negotiated
+    let d = (goal.at.write_used-requires c).After-route-r in
+    words_fit (job d) a.work.now a.log.now c.route-r.result (work-left d) (log-left d) c.route-r.ensures.demand.as_negotiated
 
 pub returns-in-Accepted : goal.returns-in-Accepted
 returns-in-Accepted c =
     let a = c.args in
-    run_accepted (job (goal.at.returns-in-Accepted c).Start) a.work.now a.log.now c.route-r.result (work-left (goal.at.returns-in-Accepted c).After-route-r) (log-left (goal.at.returns-in-Accepted c).After-route-r) c.route-r.ensures.demand.as_negotiated
+    let d = (goal.at.returns-in-Accepted c).After-route-r in
+    run_accepted (job d) a.work.now a.log.now c.route-r.result (work-left d) (log-left d) c.route-r.ensures.demand.as_negotiated
     a.style a.routes.now c.write_used.result c.write_used.new.routes c.in-Accepted.is c.write_used.ensures
 
 pub returns-in-Unreachable : goal.returns-in-Unreachable
@@ -69,6 +71,7 @@ returns-in-TooLarge c = refused (goal.at.returns-in-TooLarge c).After-route-r _ 
 pub returns-in-NotCheapest : goal.returns-in-NotCheapest
 returns-in-NotCheapest c =
     let a = c.args in
+    let d = (goal.at.returns-in-NotCheapest c).After-route-r in
     absurd
-    (never_found (job (goal.at.returns-in-NotCheapest c).Start) a.work.now a.log.now c.route-r.result (work-left (goal.at.returns-in-NotCheapest c).After-route-r) (log-left (goal.at.returns-in-NotCheapest c).After-route-r) c.route-r.ensures.demand.as_negotiated
+    (never_found (job d) a.work.now a.log.now c.route-r.result (work-left d) (log-left d) c.route-r.ensures.demand.as_negotiated
     c.in-NotCheapest.is)

@@ -1,23 +1,16 @@
 -- `negotiation::refusal_of` meets its contract: the numbers of its tests, one by one.
 -- Assumes nothing.
-use mathlib.Core.Bool.{false}
 use mathlib.Core.Path.{◌≡◌, sym, ◌∙◌}
 use Prim.Native.Nat.{◌≤◌}
 use native.Mathlib.Omega.{arith}
 use lib.ListN.{length}
 use Rattle.search.proofs.BlockLaws.{kinds-few}
-use Rattle.job.specs.Job.{Job, job_of, nodes}
-use Rattle.job.specs.Tables.{faulty_job, exceeds}
+use Rattle.job.specs.Job.{Job, job_of}
+use Rattle.job.specs.Tables.{faulty_job}
 use Rattle.job.proofs.JobLaws.{sound-job}
 use Rattle.negotiation.proofs.RefusalLaws.{table_numbers, large_numbers, work-numbers, no_numbers}
-use Rattle.negotiation.proofs.refusal_of.Goals.{Else-exceeds, Else-table-ge1, Start}
+use Rattle.negotiation.proofs.refusal_of.Goals.{Else-table-ge1, Start}
 use Rattle.negotiation.proofs.refusal_of.Goals as goal
-
-abbrev entry : Else-table-ge1 → Start
-entry c = c.before.before.before.before.before.before.before.before.before.before.before
-
-abbrev entry_2 : Else-exceeds → Start
-entry_2 c = c.before.before.before.before.before.before.before.before.before.before.before.before.before
 
 -- the job that is lent
 abbrev job : Start → Job
@@ -26,16 +19,11 @@ job e =
     e.args.first_sink.now e.args.sink.now e.args.delay.now e.args.criticality.now e.args.terms
 
 -- no table is faulty
-module _ (c : Else-table-ge1) where
-  few-nodes : length c.args.kind.now ≤ 4096
-  few-nodes =
-      let e = c.faulty_job-table.ensures in
-      let none : faulty_job (job (entry c)) ≡ 0 = omega (arith, c.if-table-ge1.false) in
-      kinds-few _ (sound-job (job (entry c)) none).block-sound.kinds_sound_lem
-
--- nor is the job too large
-fits : (c : Else-exceeds) → exceeds (nodes (job (entry_2 c))) c.args.terms ≡ false
-fits c = sym c.exceeds.ensures ∙ c.if-exceeds.false
+few-nodes : (c : Else-table-ge1) → length c.args.kind.now ≤ 4096
+few-nodes c =
+    let named = c.faulty_job-table.ensures in
+    let none : faulty_job _ ≡ 0 = sym named ∙ omega (arith, c.if-table-ge1.false) in
+    kinds-few _ (sound-job _ none).block-sound.kinds_sound_lem
 
 pub returns-then-table-ge1 : goal.returns-then-table-ge1
 returns-then-table-ge1 c = table_numbers (job (goal.at.returns-then-table-ge1 c).Start) _ _ c.faulty_job-table.ensures c.if-table-ge1.true
@@ -52,8 +40,10 @@ overflow_mul-needed c = let f = few-nodes (goal.at.overflow_mul-needed c).Else-t
 
 pub returns-then-entries-needed : goal.returns-then-entries-needed
 returns-then-entries-needed c =
-    work-numbers (job (goal.at.returns-then-entries-needed c).Start) _ _ c.faulty_job-table.ensures c.if-table-ge1.false (fits (goal.at.returns-then-entries-needed c).Else-exceeds) c.if-entries-needed.true
+    work-numbers (job (goal.at.returns-then-entries-needed c).Start) _ _ c.faulty_job-table.ensures c.if-table-ge1.false (sym c.exceeds.ensures ∙ c.if-exceeds.false)
+    c.if-entries-needed.true
 
 pub returns : goal.returns
 returns c =
-    no_numbers (job (goal.at.returns c).Start) _ _ c.faulty_job-table.ensures c.if-table-ge1.false (fits (goal.at.returns c).Else-exceeds) c.if-entries-needed.false
+    no_numbers (job (goal.at.returns c).Start) _ _ c.faulty_job-table.ensures c.if-table-ge1.false (sym c.exceeds.ensures ∙ c.if-exceeds.false)
+    c.if-entries-needed.false

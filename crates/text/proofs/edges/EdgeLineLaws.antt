@@ -238,7 +238,9 @@ edges_none text from first nodes edges firsts targets a l h =
       rest_is = rw all;
     }
 
-module _ {text : List ℕ} {from first nodes edges : ℕ} {firsts₀ targets₀ firsts targets : List ℕ} {at line row target k : ℕ} (room : (nodes + 1 ≤ length firsts₀) × (edges ≤ length targets₀)) (s : EdgesRead text from first nodes edges firsts₀ targets₀ firsts targets at line row target k) where
+module _
+    {text : List ℕ} {from first nodes edges : ℕ} {firsts₀ targets₀ firsts targets : List ℕ} {at line row target k : ℕ} (room : (nodes + 1 ≤ length firsts₀) × (edges ≤ length targets₀))
+    (s : EdgesRead text from first nodes edges firsts₀ targets₀ firsts targets at line row target k) where
   -- before the first edge the row is the first
   first_row : k ≡ 0 → row ≡ 0
   first_row e = sym s.last_from ∙ none s.froms (s.froms-long ∙ e)

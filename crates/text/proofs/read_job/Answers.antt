@@ -14,19 +14,13 @@ lent s = let a = s.args in tables_of a.kind.now a.capacity.now a.first_edge.now 
 pub store_job-requires : goal.store_job-requires
 store_job-requires c =
     let lines = c.read_lines in
-    let k = lines.kept.1 in
-    let counts = job-counts lines.result _ _ _ _ _ _ c.in-Counts.is lines.ensures.1 in record {
+    let counts = job-counts lines.result _ _ _ _ _ _ c.in-Counts.is lines.ensures.job_place in record {
       room_for_all = record {
-        kinds-long = omega (arith, k.0);
-        capacities-long = omega (arith, k.1.0);
-        delays-long = omega (arith, k.1.1.1.1.1.1.1.0);
-        edge-room = record { firsts-long = omega (arith, k.1.1.0); targets-long = omega (arith, k.1.1.1.0) };
-        net-room = record {
-          sources-long = omega (arith, k.1.1.1.1.0);
-          firsts-long = omega (arith, k.1.1.1.1.1.0);
-          sinks-long = omega (arith, k.1.1.1.1.1.1.0);
-          criticalities-long = omega (arith, k.1.1.1.1.1.1.1.1.0);
-        };
+        kinds-long = omega arith;
+        capacities-long = omega arith;
+        delays-long = omega arith;
+        edge-room = record { firsts-long = omega arith; targets-long = omega arith };
+        net-room = record { sources-long = omega arith; firsts-long = omega arith; sinks-long = omega arith; criticalities-long = omega arith };
       };
       counts_within = (counts.0, counts.1);
     }
@@ -34,57 +28,29 @@ store_job-requires c =
 pub bad_line-requires : goal.bad_line-requires
 bad_line-requires c =
     let lines = c.read_lines in
-    let l = lines.last.1 in
-    job-row c.args.text.now lines.result l.0 l.1.0 l.1.1.0 l.1.1.1.0 l.1.1.1.1.0 l.1.1.1.1.1.0 l.1.1.1.1.1.1.0 l.1.1.1.1.1.1.1.0 l.1.1.1.1.1.1.1.1.0
-    c.in-Stopped.is lines.ensures.0
-
-pub shape_of-kind : goal.shape_of-kind
-shape_of-kind c = c.store_job.auto.kind
-
-pub shape_of-capacity : goal.shape_of-capacity
-shape_of-capacity c = c.store_job.auto.capacity
-
-pub shape_of-first_edge : goal.shape_of-first_edge
-shape_of-first_edge c = c.store_job.auto.first_edge
-
-pub shape_of-edge_target : goal.shape_of-edge_target
-shape_of-edge_target c = c.store_job.auto.edge_target
-
-pub shape_of-source : goal.shape_of-source
-shape_of-source c = c.store_job.auto.source
-
-pub shape_of-first_sink : goal.shape_of-first_sink
-shape_of-first_sink c = c.store_job.auto.first_sink
-
-pub shape_of-sink : goal.shape_of-sink
-shape_of-sink c = c.store_job.auto.sink
-
-pub shape_of-delay : goal.shape_of-delay
-shape_of-delay c = c.store_job.auto.delay
-
-pub shape_of-criticality : goal.shape_of-criticality
-shape_of-criticality c = c.store_job.auto.criticality
+    let l = lines.new in
+    job-row c.args.text.now lines.result l.kind l.capacity l.first_edge l.edge_target l.source l.first_sink l.sink l.delay l.criticality c.in-Stopped.is lines.ensures.criticality_after
 
 pub returns-in-Counts : goal.returns-in-Counts
 returns-in-Counts c =
     let lines = c.read_lines in
-    let l = lines.last.1 in
-    let given = c.nodes-1.given in
-    let counts = given.0 in
-    let left = c.store_job.new.1.1.1.1.1.1.1.1.1.1.1.1.1.1 in record {
-      answers = job_read_lem c.args.text.now lines.result counts.0 counts.1.0 counts.1.1.0 counts.1.1.1.0 counts.1.1.1.1.0 counts.1.1.1.1.1.0
-          l.0 l.1.0 l.1.1.0 l.1.1.1.0 l.1.1.1.1.0 l.1.1.1.1.1.0 l.1.1.1.1.1.1.0 l.1.1.1.1.1.1.1.0 l.1.1.1.1.1.1.1.1.0
+    let l = lines.new in
+    let n = c.in-Counts in
+    let left = c.store_job.new in record {
+      answers = job_read_lem c.args.text.now lines.result n.nodes n.edges n.nets n.sinks n.terms _
+          l.kind l.capacity l.first_edge l.edge_target l.source l.first_sink l.sink l.delay l.criticality
           (lent (goal.at.returns-in-Counts c).Start)
           (read_reply_of c.store_job.result
-          (tables_of left.0 left.1.0 left.1.1.0 left.1.1.1.0 left.1.1.1.1.0 left.1.1.1.1.1.0 left.1.1.1.1.1.1.0 left.1.1.1.1.1.1.1.0 left.1.1.1.1.1.1.1.1.0))
-          given.1 lines.ensures.0 c.store_job.ensures;
+          (tables_of left.kind left.capacity left.first_edge left.edge_target left.source left.first_sink left.sink left.delay left.criticality))
+          n.is lines.ensures.criticality_after c.store_job.ensures;
     }
 
 pub returns-in-Stopped : goal.returns-in-Stopped
 returns-in-Stopped c =
     let lines = c.read_lines in
-    let l = lines.last.1 in record {
-      answers = c.bad_line.ensures (lent (goal.at.returns-in-Stopped c).Start)
-          ∙ job-stopped c.args.text.now lines.result _ _ l.0 l.1.0 l.1.1.0 l.1.1.1.0 l.1.1.1.1.0 l.1.1.1.1.1.0 l.1.1.1.1.1.1.0 l.1.1.1.1.1.1.1.0 l.1.1.1.1.1.1.1.1.0
-          (lent (goal.at.returns-in-Stopped c).Start) c.in-Stopped.is lines.ensures.0;
+    let l = lines.new in
+    let s = lent (goal.at.returns-in-Stopped c).Start in record {
+      answers = c.bad_line.ensures s
+          ∙ job-stopped c.args.text.now lines.result _ _ l.kind l.capacity l.first_edge l.edge_target l.source l.first_sink l.sink l.delay l.criticality
+          s c.in-Stopped.is lines.ensures.criticality_after;
     }

@@ -12,21 +12,33 @@ lent s = let a = s.args in tables_of a.kind.now a.capacity.now a.first_edge.now 
 
 pub returns-then-table-ge1 : goal.returns-then-table-ge1
 returns-then-table-ge1 c =
-    store_short _ _ _ _ c.args.terms _ _ _ _ _ _ _ _ _ c.requires.room_for_all c.requires.counts_within.0 c.requires.counts_within.1 (lent (goal.at.returns-then-table-ge1 c).Start) c.if_timed-delays_due.result c.if_timed-criticalities_due.result c.if_timed-delays_due.ensures c.if_timed-criticalities_due.ensures
-    c.lowest_short-table.result c.lowest_short-table.ensures c.if-table-ge1.true
+    let r = c.requires in
+    let d = c.if_timed-delays_due in
+    let t = c.if_timed-criticalities_due in
+    let s = c.lowest_short-table in
+    store_short _ _ _ _ c.args.terms _ _ _ _ _ _ _ _ _ r.room_for_all r.counts_within.0 r.counts_within.1 (lent (goal.at.returns-then-table-ge1 c).Start) d.result t.result d.ensures t.ensures
+    s.result s.ensures c.if-table-ge1.true
 
 pub returns-then-exceeds : goal.returns-then-exceeds
 returns-then-exceeds c =
-    store_large _ _ _ _ c.args.terms _ _ _ _ _ _ _ _ _ c.requires.room_for_all c.requires.counts_within.0 c.requires.counts_within.1 (lent (goal.at.returns-then-exceeds c).Start) c.if_timed-delays_due.result c.if_timed-criticalities_due.result c.if_timed-delays_due.ensures c.if_timed-criticalities_due.ensures
-    c.lowest_short-table.result c.lowest_short-table.ensures c.if-table-ge1.false c.exceeds.ensures c.if-exceeds.true
+    let r = c.requires in
+    let d = c.if_timed-delays_due in
+    let t = c.if_timed-criticalities_due in
+    let s = c.lowest_short-table in
+    store_large _ _ _ _ c.args.terms _ _ _ _ _ _ _ _ _ r.room_for_all r.counts_within.0 r.counts_within.1 (lent (goal.at.returns-then-exceeds c).Start) d.result t.result d.ensures t.ensures
+    s.result s.ensures c.if-table-ge1.false c.exceeds.ensures c.if-exceeds.true
 
 pub copy_block-requires : goal.copy_block-requires
 copy_block-requires c =
-    let room = c.requires.room_for_all in
-    let within = c.requires.counts_within.0 in
+    let r = c.requires in
+    let d = c.if_timed-delays_due in
+    let t = c.if_timed-criticalities_due in
+    let s = c.lowest_short-table in
+    let room = r.room_for_all in
+    let within = r.counts_within.0 in
     let long =
-    store_room _ _ _ _ c.args.terms _ _ _ _ _ _ _ _ _ c.requires.room_for_all c.requires.counts_within.0 c.requires.counts_within.1 (lent (goal.at.copy_block-requires c).Start) c.if_timed-delays_due.result c.if_timed-criticalities_due.result c.if_timed-delays_due.ensures c.if_timed-criticalities_due.ensures
-    c.lowest_short-table.result c.lowest_short-table.ensures c.if-table-ge1.false in (
+    store_room _ _ _ _ c.args.terms _ _ _ _ _ _ _ _ _ r.room_for_all r.counts_within.0 r.counts_within.1 (lent (goal.at.copy_block-requires c).Start) d.result t.result d.ensures t.ensures
+    s.result s.ensures c.if-table-ge1.false in (
       record { there = omega (arith, room.kinds-long, within.nodes_most_lem); room = long.kinds-long },
       record { there = omega (arith, room.capacities-long, within.nodes_most_lem); room = long.capacities-long },
       record { there = omega (arith, room.edge-room.firsts-long, within.nodes_most_lem); room = long.first_edges-long },
@@ -35,65 +47,50 @@ copy_block-requires c =
 
 pub copy_nets-requires : goal.copy_nets-requires
 copy_nets-requires c =
-    let room = c.requires.room_for_all in
-    let within = c.requires.counts_within.0 in
+    let r = c.requires in
+    let d = c.if_timed-delays_due in
+    let t = c.if_timed-criticalities_due in
+    let s = c.lowest_short-table in
+    let room = r.room_for_all in
+    let within = r.counts_within.0 in
     let long =
-    store_room _ _ _ _ c.args.terms _ _ _ _ _ _ _ _ _ c.requires.room_for_all c.requires.counts_within.0 c.requires.counts_within.1 (lent (goal.at.copy_nets-requires c).Start) c.if_timed-delays_due.result c.if_timed-criticalities_due.result c.if_timed-delays_due.ensures c.if_timed-criticalities_due.ensures
-    c.lowest_short-table.result c.lowest_short-table.ensures c.if-table-ge1.false in (
+    store_room _ _ _ _ c.args.terms _ _ _ _ _ _ _ _ _ r.room_for_all r.counts_within.0 r.counts_within.1 (lent (goal.at.copy_nets-requires c).Start) d.result t.result d.ensures t.ensures
+    s.result s.ensures c.if-table-ge1.false in (
       record { there = omega (arith, room.net-room.sources-long, within.nets_most_lem); room = long.sources-long },
       record { there = omega (arith, room.net-room.firsts-long, within.nets_most_lem); room = long.first_sinks-long },
-      record { there = omega (arith, room.net-room.sinks-long, c.requires.counts_within.1); room = long.sinks-long },
+      record { there = omega (arith, room.net-room.sinks-long, r.counts_within.1); room = long.sinks-long },
     )
 
 pub copy_times-requires : goal.copy_times-requires
 copy_times-requires c =
-    let room = c.requires.room_for_all in
-    let within = c.requires.counts_within.0 in
-    let delays = due-most c.args.terms.timed c.if_timed-delays_due.ensures in
-    let tenths = due-most c.args.terms.timed c.if_timed-criticalities_due.ensures in
+    let r = c.requires in
+    let d = c.if_timed-delays_due in
+    let t = c.if_timed-criticalities_due in
+    let s = c.lowest_short-table in
+    let room = r.room_for_all in
+    let within = r.counts_within.0 in
+    let delays = due-most c.args.terms.timed d.ensures in
+    let tenths = due-most c.args.terms.timed t.ensures in
     let long =
-    store_times _ _ _ _ c.args.terms _ _ _ _ _ _ _ _ _ c.requires.room_for_all c.requires.counts_within.0 c.requires.counts_within.1 (lent (goal.at.copy_times-requires c).Start) c.if_timed-delays_due.result c.if_timed-criticalities_due.result c.if_timed-delays_due.ensures c.if_timed-criticalities_due.ensures
-    c.lowest_short-table.result c.lowest_short-table.ensures c.if-table-ge1.false in (
+    store_times _ _ _ _ c.args.terms _ _ _ _ _ _ _ _ _ r.room_for_all r.counts_within.0 r.counts_within.1 (lent (goal.at.copy_times-requires c).Start) d.result t.result d.ensures t.ensures
+    s.result s.ensures c.if-table-ge1.false in (
       record { there = omega (arith, delays, room.delays-long, within.nodes_most_lem); room = long.delays-long },
-      record { there = omega (arith, tenths, room.net-room.criticalities-long, c.requires.counts_within.1); room = long.criticalities-long },
+      record { there = omega (arith, tenths, room.net-room.criticalities-long, r.counts_within.1); room = long.criticalities-long },
     )
-
-pub shape_of-kind : goal.shape_of-kind
-shape_of-kind c = c.copy_block.auto.kind
-
-pub shape_of-capacity : goal.shape_of-capacity
-shape_of-capacity c = c.copy_block.auto.capacity
-
-pub shape_of-first_edge : goal.shape_of-first_edge
-shape_of-first_edge c = c.copy_block.auto.first_edge
-
-pub shape_of-edge_target : goal.shape_of-edge_target
-shape_of-edge_target c = c.copy_block.auto.edge_target
-
-pub shape_of-source : goal.shape_of-source
-shape_of-source c = c.copy_nets.auto.source
-
-pub shape_of-first_sink : goal.shape_of-first_sink
-shape_of-first_sink c = c.copy_nets.auto.first_sink
-
-pub shape_of-sink : goal.shape_of-sink
-shape_of-sink c = c.copy_nets.auto.sink
-
-pub shape_of-delay : goal.shape_of-delay
-shape_of-delay c = c.copy_times.auto.delay
-
-pub shape_of-criticality : goal.shape_of-criticality
-shape_of-criticality c = c.copy_times.auto.criticality
 
 pub returns : goal.returns
 returns c =
-    let k = c.copy_block.new.1.1.1.1.1.1 in
-    let m = c.copy_nets.new.1.1.1.1.1 in
-    let o = c.copy_times.new.1.1.1.1 in
+    let r = c.requires in
+    let d = c.if_timed-delays_due in
+    let t = c.if_timed-criticalities_due in
+    let s = c.lowest_short-table in
+    let k = c.copy_block.new in
+    let m = c.copy_nets.new in
+    let o = c.copy_times.new in
     let b = c.copy_block.ensures in
     let n = c.copy_nets.ensures in
     let w = c.copy_times.ensures in
-    store_done _ _ _ _ c.args.terms _ _ _ _ _ _ _ _ _ c.requires.room_for_all c.requires.counts_within.0 c.requires.counts_within.1 (lent (goal.at.returns c).Start) c.if_timed-delays_due.result c.if_timed-criticalities_due.result c.if_timed-delays_due.ensures c.if_timed-criticalities_due.ensures
-    c.lowest_short-table.result c.lowest_short-table.ensures c.if-table-ge1.false
-    (tables_of k.0 k.1.0 k.1.1.0 k.1.1.1.0 m.0 m.1.0 m.1.1.0 o.0 o.1.0)
+    store_done _ _ _ _ c.args.terms _ _ _ _ _ _ _ _ _ r.room_for_all r.counts_within.0 r.counts_within.1 (lent (goal.at.returns c).Start) d.result t.result d.ensures t.ensures
+    s.result s.ensures c.if-table-ge1.false
+    (tables_of k.kind k.capacity k.first_edge k.edge_target m.source m.first_sink m.sink o.delay o.criticality)
     c.exceeds.ensures c.if-exceeds.false b.0 b.1 b.2 b.3 n.0 n.1 n.2 w.0 w.1

@@ -17,7 +17,10 @@ needed c =
 
 -- the buffer has room for it
 fits : (c : Else-buffer-needed) → text_bytes c.args.style c.args.iteration c.args.turns c.args.log.now c.args.source.now ≤ length c.args.buffer.now
-fits c = omega (arith, needed c.before, c.if-buffer-needed.false, c.well_formed)
+fits c =
+    let a = c.args in
+    let sum = needed_sum a.style a.iteration a.turns a.log.now a.source.now c.head_length-head.ensures.0 c.tail_length.ensures.0 c.put_branches.ensures c.capped_sum-needed.ensures in
+    omega (arith, sum, c.if-buffer-needed.false, c.well_formed)
 
 short : (e : Start) → length e.args.buffer.now < 2 ^ 64
 short e = omega (arith, e.well_formed)

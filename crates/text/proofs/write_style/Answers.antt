@@ -28,18 +28,18 @@ first_marks-marks-requires c = sources-few _ _ (table c)
 pub write_text-requires : goal.write_text-requires
 write_text-requires c = (
   sources-few _ _ (table (goal.at.write_text-requires c).Else-not-sources_sound),
-  (found (named_by c.first_Marks.result nodes_most) _ (marks_few _ _ (table (goal.at.write_text-requires c).Else-not-sources_sound) c.first_Marks.ensures) (omega arith)
+  (found (named_by c.first_marks-marks.result nodes_most) _ (marks_few _ _ (table (goal.at.write_text-requires c).Else-not-sources_sound) c.first_marks-marks.ensures) (omega arith)
       (ap checked_at (sym c.in-Sound.is) ∙ c.check_log.ensures)).1,
 )
 
 pub returns-in-Sound : goal.returns-in-Sound
 returns-in-Sound c = record {
-  answers = write_sound _ _ _ _ c.first_Marks.result (table (goal.at.returns-in-Sound c).Else-not-sources_sound) c.first_Marks.ensures
+  answers = write_sound _ _ _ _ c.first_marks-marks.result (table (goal.at.returns-in-Sound c).Else-not-sources_sound) c.first_marks-marks.ensures
       (ap checked_at (sym c.in-Sound.is) ∙ c.check_log.ensures) c.write_text.ensures;
 }
 
 pub returns-in-Unsound : goal.returns-in-Unsound
 returns-in-Unsound c = record {
-  answers = write_unsound _ _ _ _ c.first_Marks.result (table (goal.at.returns-in-Unsound c).Else-not-sources_sound) c.first_Marks.ensures
+  answers = write_unsound _ _ _ _ c.first_marks-marks.result (table (goal.at.returns-in-Unsound c).Else-not-sources_sound) c.first_marks-marks.ensures
       (ap checked_at (sym c.in-Unsound.is) ∙ c.check_log.ensures);
 }

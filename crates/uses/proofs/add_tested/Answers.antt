@@ -9,8 +9,7 @@ use Rattle.uses.proofs.add_tested.Goals as goal
 
 pub returns-then-logs-ge-LOGS_MOST : goal.returns-then-logs-ge-LOGS_MOST
 returns-then-logs-ge-LOGS_MOST c =
-    let users = c.node_users in
-    add_full _ _ _ users.ensures c.in-Sound.is _ (search rules)
+    add_full _ _ _ c.node_users.ensures.answers c.in-Sound.is _ (search rules)
 
 pub slice_bounds-tally-end : goal.slice_bounds-tally-end
 slice_bounds-tally-end c =
@@ -20,7 +19,11 @@ slice_bounds-tally-end c =
 
 pub tally-requires : goal.tally-requires
 tally-requires c =
-    let long = users-long c.args.kind.now c.args.log.now (replicate 4096 0) c.node_users.ensures.answers c.in-Sound.is in record { kind_value = (c.requires.0, omega (arith, long, kinds-few _ c.requires.0)); sums_len = (search rules, c.requires.1) }
+    let long = users-long c.args.kind.now c.args.log.now (replicate 4096 0) c.node_users.ensures.answers c.in-Sound.is in
+    record {
+      kind_value = (c.requires.0, omega (arith, long, kinds-few _ c.requires.0));
+      sums_len = (search rules, c.requires.1);
+    }
 
 pub returns-in-Unsound : goal.returns-in-Unsound
 returns-in-Unsound c = add-unsound _ _ _ c.node_users.ensures.answers _ c.in-Unsound.is

@@ -1,7 +1,6 @@
 -- `first_net::first_of` meets its contract. The loop's invariant: no net passed has the source.
 -- Assumes nothing.
 use mathlib.Core.Path.{sym}
-use Prim.Native.Nat.{◌-◌}
 use Rattle.std.proofs.Common.{rules}
 use borrow.Author.Count.{below_none, below_more}
 use Rattle.job.proofs.FirstNetLaws.{first_found, first_none}

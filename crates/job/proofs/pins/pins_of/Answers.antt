@@ -1,9 +1,7 @@
 -- `pins::pins_of` meets its contract. The loop's invariant: the kind of every pin passed passes the test.
 -- Assumes nothing.
 use mathlib.Core.Bool.{not}
-use mathlib.Core.Bool.{true}
 use mathlib.Core.Path.{sym, ◌∙◌, ap}
-use Prim.Native.Nat.{◌-◌}
 use native.Mathlib.Omega.{arith}
 use Rattle.std.proofs.Common.{rules}
 use borrow.Author.Count.{below_none, below_more}

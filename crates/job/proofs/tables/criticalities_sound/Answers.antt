@@ -1,7 +1,6 @@
 -- `tables::criticalities_sound` meets its contract. The loop's invariant: every criticality passed keeps its bound.
 -- Assumes nothing.
 use mathlib.Core.Path.{sym}
-use Prim.Native.Nat.{◌-◌}
 use native.Mathlib.Omega.{arith}
 use Rattle.std.proofs.Common.{rules}
 use borrow.Author.Count.{below_none, below_more}

@@ -29,13 +29,11 @@ returns-then-not-first_sinks_sound c =
     (refused c.first_sinks_sound.ensures (ap not c.if-not-first_sinks_sound.true)))
 
 pub sinks_sound-requires : goal.sinks_sound-requires
-sinks_sound-requires c = (
-  search rules,
-  (
-    passed c.sources_sound.ensures (ap not c.if-not-sources_sound.false),
-    passed c.first_sinks_sound.ensures (ap not c.if-not-first_sinks_sound.false),
-  ),
-)
+sinks_sound-requires c = record {
+  n_le_nodes_most = search rules;
+  source_value = passed c.sources_sound.ensures (ap not c.if-not-sources_sound.false);
+  first_sink_value = passed c.first_sinks_sound.ensures (ap not c.if-not-first_sinks_sound.false);
+}
 
 pub returns-then-not-sinks_sound : goal.returns-then-not-sinks_sound
 returns-then-not-sinks_sound c =

@@ -4,7 +4,8 @@ use mathlib.Core.Bool.{not}
 use Rattle.std.proofs.Common.{ap}
 use mathlib.Core.Path.{sym, ◌∙◌}
 use native.Mathlib.Omega.{arith}
-use lib.ListN.{length-set}
+use Prim.Native.Nat.{◌<◌}
+use lib.ListN.{length, length-set}
 use Rattle.price.proofs.TestLaws.{true≢false}
 use Rattle.search.proofs.KeptLaws.{refused, passed}
 use Rattle.job.proofs.SinkMarkLaws.{free_source, free-below, unmarked_again}
@@ -15,7 +16,12 @@ shape_of-seen-then-not-mark_sinks c =
     c.mark_sinks.auto.seen ∙ length-set c.args.seen.now c.args.from 1
 
 pub returns-then-not-mark_sinks : goal.returns-then-not-mark_sinks
-returns-then-not-mark_sinks c = record { value = sym (sym (free_source _ c.args.from _ c.args.seen.now c.requires.by_index (omega arith)) ∙ refused c.mark_sinks.ensures.value (ap not c.if-not-mark_sinks.true)); v_after = λ e. absurd (true≢false (sym e)) }
+returns-then-not-mark_sinks c =
+    let within = free_source _ c.args.from _ c.args.seen.now c.requires.by_index (omega arith) in
+    record {
+      value = sym (sym within ∙ refused c.mark_sinks.ensures.value (ap not c.if-not-mark_sinks.true));
+      v_after = λ e. absurd (true≢false (sym e));
+    }
 
 pub unmark_sinks-requires : goal.unmark_sinks-requires
 unmark_sinks-requires c = λ i l.
@@ -36,4 +42,10 @@ shape_of-seen c =
 pub returns : goal.returns
 returns c =
     let free = passed c.mark_sinks.ensures.value (ap not c.if-not-mark_sinks.false) in
-    let within = free_source _ c.args.from c.args.sinks.now c.args.seen.now c.requires.by_index (omega (arith, c.requires.n_in_bounds)) in record { value = sym (sym within ∙ free); v_after = λ e. unmarked_again c.args.seen.now c.args.from c.requires.by_index (omega (arith, c.requires.n_in_bounds)) (c.mark_sinks.ensures.stored (c.mark_sinks.ensures.value ∙ free)) c.unmark_sinks.ensures }
+    let below : c.args.from < length c.args.seen.now = omega (arith, c.requires.n_in_bounds) in
+    let within = free_source _ c.args.from c.args.sinks.now c.args.seen.now c.requires.by_index below in
+    let marked = c.mark_sinks.ensures.stored (c.mark_sinks.ensures.value ∙ free) in
+    record {
+      value = sym (sym within ∙ free);
+      v_after = λ e. unmarked_again c.args.seen.now c.args.from c.requires.by_index below marked c.unmark_sinks.ensures;
+    }

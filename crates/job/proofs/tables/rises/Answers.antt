@@ -1,7 +1,6 @@
 -- `tables::rises` meets its contract. The loop's invariant: every entry passed is above the one before it.
 -- Assumes nothing.
 use mathlib.Core.Path.{sym}
-use Prim.Native.Nat.{◌-◌}
 use native.Mathlib.Omega.{arith}
 use Rattle.std.proofs.Common.{rules}
 use borrow.Author.Count.{below_more}

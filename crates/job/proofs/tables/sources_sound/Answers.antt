@@ -1,7 +1,6 @@
 -- `tables::sources_sound` meets its contract. The loop's invariant: every source passed is a node.
 -- Assumes nothing.
 use mathlib.Core.Path.{sym}
-use Prim.Native.Nat.{◌-◌}
 use native.Mathlib.Omega.{arith}
 use Rattle.std.proofs.Common.{rules}
 use borrow.Author.Count.{below_none, below_more}

@@ -7,19 +7,16 @@ use Rattle.search.proofs.BlockLaws.{kinds-few}
 use Rattle.job.specs.Job.{Job, job_of}
 use Rattle.negotiation.specs.Steps.{missing, reach_numbers}
 use Rattle.negotiation.proofs.audit_log.AuditLogLaws.{unreachable_audited, run_audited}
-use Rattle.negotiation.proofs.audit_log.audit_joined.Goals.{After-unreachable, Start}
+use Rattle.negotiation.proofs.audit_log.audit_joined.Goals.{After-unreachable}
 use Rattle.negotiation.proofs.audit_log.audit_joined.Goals as goal
 
-abbrev entry : After-unreachable → Start
-entry c = c.before.before.before.before.before.before.before.before.before.before.before.before.before
-
 -- the job that is lent
-abbrev job : Start → Job
-job e =
-    job_of e.args.kind.now e.args.capacity.now e.args.first_edge.now e.args.edge_target.now e.args.source.now
-    e.args.first_sink.now e.args.sink.now e.args.delay.now e.args.criticality.now e.args.terms
+abbrev job : After-unreachable → Job
+job u =
+    job_of u.args.kind.now u.args.capacity.now u.args.first_edge.now u.args.edge_target.now u.args.source.now
+    u.args.first_sink.now u.args.sink.now u.args.delay.now u.args.criticality.now u.args.terms
 
-test : (u : After-unreachable) → reach_numbers u.unreachable.result ≡ missing (job (entry u))
+test : (u : After-unreachable) → reach_numbers u.unreachable.result ≡ missing (job u)
 test u =
     u.unreachable.ensures.first_missing u.args.capacity.now u.args.delay.now u.args.criticality.now u.args.terms u.requires.0
 
@@ -46,9 +43,12 @@ audit_lists-requires c =
 
 pub returns-in-Missing : goal.returns-in-Missing
 returns-in-Missing c =
-    unreachable_audited (job (goal.at.returns-in-Missing c).Start) c.args.work.now _ c.unreachable.ensures.same_from _ (test (goal.at.returns-in-Missing c).After-unreachable) c.args.used c.args.log.now _ _ _ _ c.in-Missing.is c.refused.ensures
-    c.clear.ensures
+    let tested = (goal.at.returns-in-Missing c).After-unreachable in
+    unreachable_audited (job tested) c.args.work.now _ c.unreachable.ensures.same_from _ (test tested) c.args.used c.args.log.now _ _ _ _
+    c.in-Missing.is c.refused.ensures c.clear.ensures
 
 pub returns-in-All : goal.returns-in-All
 returns-in-All c =
-    run_audited (job (goal.at.returns-in-All c).Start) c.args.work.now _ c.unreachable.ensures.same_from _ (test (goal.at.returns-in-All c).After-unreachable) c.args.used c.args.log.now _ c.in-All.is c.audit_lists.ensures
+    let tested = (goal.at.returns-in-All c).After-unreachable in
+    run_audited (job tested) c.args.work.now _ c.unreachable.ensures.same_from _ (test tested) c.args.used c.args.log.now _ c.in-All.is
+    c.audit_lists.ensures

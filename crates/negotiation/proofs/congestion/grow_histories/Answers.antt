@@ -11,15 +11,9 @@ use Rattle.price.specs.Lists.{up_to}
 use Rattle.price.specs.Prices.{next_history}
 use Rattle.price.specs.declared.Tuning.{Tuning}
 use Rattle.negotiation.proofs.FilledLaws.{filled_none, filled_at, filled_more, filled-all}
+use Rattle.negotiation.proofs.congestion.grow_histories.Invariants.{next}
 use Rattle.negotiation.proofs.congestion.grow_histories.Goals.{After-next_history, Start}
 use Rattle.negotiation.proofs.congestion.grow_histories.Goals as goal
-
-abbrev entry : After-next_history → Start
-entry c = c.before.before.before.before.before.before.before.before.before
-
--- what a node's history becomes
-abbrev next : Tuning → List ℕ → List ℕ → List ℕ → ℕ → ℕ
-next g cs us hs v = next_history g (get_or hs v 0) (get_or us v 0) (get_or cs v 0)
 
 -- the history that is read is the first one
 grown_read : (g : Tuning) (cs us hs now : List ℕ) (v r : ℕ) → v < length hs → now ≡ up_to (next g cs us hs) v ++ drop v hs → r ≡ next_history g (get_or now v 0) (get_or us v 0) (get_or cs v 0) → r ≡ next g cs us hs v
@@ -45,11 +39,8 @@ overflow_cast-users c = omega (arith, c.type_inv.users c.loop-v.v)
 pub overflow_cast-capacity : goal.overflow_cast-capacity
 overflow_cast-capacity c = omega (arith, c.type_inv.capacity c.loop-v.v)
 
-pub next_history-requires : goal.next_history-requires
-next_history-requires c = tt
-
 -- the history that is read is the first one, and what the call answers is what it becomes
-grows : (c : After-next_history) → c.next_history.result ≡ becomes (entry c) c.loop-v.v
+grows : (c : After-next_history) → c.next_history.result ≡ next c.args.g c.args.capacity.now c.args.users.now c.args.history.now c.loop-v.v
 grows c =
     let args = c.args in
     grown_read args.g args.capacity.now args.users.now args.history.now _ c.loop-v.v _ (omega arith) c.loop-v.invariant.2 c.next_history.ensures
@@ -69,9 +60,6 @@ loop-v-preserved c = (
   simp length-set c.loop-v.invariant.1,
   rw (c.loop-v.invariant.2, grows c) (filled_more (becomes (goal.at.loop-v-preserved c).Start) c.args.history.now c.loop-v.v (omega arith)),
 )
-
-pub shape_of-history : goal.shape_of-history
-shape_of-history c = c.loop-v.invariant.1
 
 pub returns : goal.returns
 returns c =

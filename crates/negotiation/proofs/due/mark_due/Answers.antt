@@ -1,29 +1,20 @@
 -- `negotiation::due::mark_due` meets its contract: after the turns up to a net the marks below it are those that they shall be, the others stand.
 -- Assumes nothing.
 use mathlib.Core.Bool.{Bool}
-use mathlib.Core.List.{List}
 use mathlib.Core.Path.{refl, ◌∙◌, ap}
-use Prim.Native.Nat.{ℕ, ◌-◌}
+use Prim.Native.Nat.{ℕ}
 use native.Mathlib.Omega.{arith}
 use lib.ListN.{length, length-set}
-use Rattle.price.specs.Test.{choose}
 use Rattle.price.specs.Lists.{up_to}
-use Rattle.negotiation.specs.Steps.{takes}
 use Rattle.negotiation.proofs.FilledLaws.{filled_none, filled_more, filled-all}
+use Rattle.negotiation.proofs.due.mark_due.Invariants.{mark}
 use Rattle.negotiation.proofs.due.mark_due.Goals.{Start}
 use Rattle.negotiation.proofs.due.mark_due.Goals as goal
-
--- a net's mark
-abbrev mark : Bool → (capacities firsts log from to users : List ℕ) → ℕ → ℕ
-mark all capacities firsts log from to users k = choose (takes all capacities firsts log from to users k) 1 0
 
 -- a net's mark by the lists that are lent
 abbrev mark_at : Start → Bool → ℕ → ℕ
 mark_at s all =
     mark all s.args.capacity.now s.args.first_sink.now s.args.log.now s.args.tree_from.now s.args.tree_to.now s.args.users.now
-
-pub all_due-all-requires : goal.all_due-all-requires
-all_due-all-requires c = tt
 
 pub loop-net-init : goal.loop-net-init
 loop-net-init c = (omega arith, refl, filled_none (mark_at (goal.at.loop-net-init c).Start c.all_due-all.result) _)
@@ -37,9 +28,6 @@ loop-net-preserved c = (
   simp length-set c.loop-net.invariant.1,
   rw (c.loop-net.invariant.2, c.due_mark.ensures) (filled_more (mark_at (goal.at.loop-net-preserved c).Start c.all_due-all.result) c.args.due.now c.loop-net.net (omega arith)),
 )
-
-pub shape_of-due : goal.shape_of-due
-shape_of-due c = c.loop-net.invariant.1
 
 pub returns : goal.returns
 returns c =

@@ -1,8 +1,7 @@
 -- `negotiation::due::records_crowded` meets its contract: no node of the records that the loop has passed has more users than its capacity.
 -- Assumes nothing.
-use mathlib.Core.Bool.{false}
 use mathlib.Core.Path.{sym, ◌∙◌}
-use Prim.Native.Nat.{◌+◌, ◌-◌, ◌≤◌}
+use Prim.Native.Nat.{◌+◌, ◌≤◌}
 use native.Mathlib.Omega.{arith}
 use lib.ListN.{get_or}
 use Rattle.negotiation.proofs.RegionLaws.{walking_none, walking_all, record_fits, record_nodes}

@@ -2,7 +2,7 @@
 -- No queue is longer than there are nodes.
 -- Assumes nothing.
 use mathlib.Core.Path.{◌≡◌, sym, ◌∙◌}
-use Prim.Native.Nat.{ℕ, ◌-◌, ◌<◌}
+use Prim.Native.Nat.{ℕ, ◌<◌}
 use native.Mathlib.Omega.{arith}
 use lib.ListN.{length, replicate, length-set, length-replicate}
 use Rattle.negotiation.proofs.FloodLaws.{same_from_set, queue-few, flood_start, flood_more, sinks-more, sinks-marked, flood_stop, flood_whole}

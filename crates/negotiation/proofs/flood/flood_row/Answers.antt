@@ -1,8 +1,7 @@
 -- `negotiation::flood::flood_row` meets its contract. The invariant: the row is flooded up to place e. The measure is what is left of the row.
 -- Assumes nothing.
-use mathlib.Core.Logic.{⊎_elim}
-use mathlib.Core.Path.{◌≡◌, sym, ◌∙◌}
-use Prim.Native.Nat.{◌+◌, ◌-◌, ◌≤◌, ◌<◌}
+use mathlib.Core.Path.{◌≡◌}
+use Prim.Native.Nat.{◌+◌, ◌≤◌, ◌<◌}
 use native.Mathlib.Nat.{le_refl, add-zero}
 use native.Mathlib.Omega.{arith}
 use lib.ListN.{length, get_or}
@@ -25,13 +24,13 @@ has_mark t =
     omega arith
 
 -- and where it is not marked, the queue has room
-has_room : (t : In-loop-e) → get_or t.loop-e.reached (get_or t.args.edge_target.now t.loop-e.e 0) 0 ≡ 0 → t.loop-e.new < length t.args.kind.now
+has_room : (t : In-loop-e) → get_or t.loop-e.reached (get_or t.args.edge_target.now t.loop-e.e 0) 0 ≡ 0 → t.loop-e.last < length t.args.kind.now
 has_room t free =
     let r = t.requires in
     let i = t.loop-e.invariant in
     row_room r.graph r.node i.0 t.loop-e-test.true i.2 free
 
-not_full : (t : In-loop-e) → get_or t.loop-e.reached (get_or t.args.edge_target.now t.loop-e.e 0) 0 ≡ 0 → length t.args.kind.now ≤ t.loop-e.new → ⊥
+not_full : (t : In-loop-e) → get_or t.loop-e.reached (get_or t.args.edge_target.now t.loop-e.e 0) 0 ≡ 0 → length t.args.kind.now ≤ t.loop-e.last → ⊥
 not_full t free full = omega (arith, has_room t free)
 
 pub overflow_add-to : goal.overflow_add-to
@@ -97,21 +96,21 @@ loop-e-preserved c =
     let i = c.loop-e.invariant in (
       omega arith,
       omega arith,
-      ⊎_elim
-          (λ w.
-          rw w.1
-          ((elim c.if-last-kind.branch [ then-last-kind h ↦ rw h.1 (row_mark r.graph r.node i.0 c.loop-e-test.true i.2 w.0.taken) | else-last-kind h ↦ absurd (not_full (goal.at.loop-e-preserved c).In-loop-e w.0.taken h.if-last-kind.false) ])))
-          (λ w.
-          rw (w.1, add-zero c.loop-e.new)
-          ((elim c.if-last-kind.branch [ then-last-kind h ↦ rw h.1 (row_behind r.graph r.node i.0 c.loop-e-test.true i.2 w.0.left _ h.if-last-kind.true) | else-last-kind h ↦ rw h.1 (row_again r.graph r.node i.0 c.loop-e-test.true i.2 w.0.left) ])))
-          c.if-reached-v-eq0.branch,
+      elim c.if-reached-v-eq0.branch [
+        | then-reached-v-eq0 w ↦
+            rw w.new-is
+            (elim c.if-last-kind.branch [
+              | then-last-kind h ↦ rw h.work-is (row_mark r.graph r.node i.0 c.loop-e-test.true i.2 w.if-reached-v-eq0.true)
+              | else-last-kind h ↦ absurd (not_full (goal.at.loop-e-preserved c).In-loop-e w.if-reached-v-eq0.true h.if-last-kind.false)
+            ])
+        | else-reached-v-eq0 w ↦
+            rw (w.new-is, add-zero c.loop-e.last)
+            (elim c.if-last-kind.branch [
+              | then-last-kind h ↦ rw h.work-is (row_behind r.graph r.node i.0 c.loop-e-test.true i.2 w.if-reached-v-eq0.false _ h.if-last-kind.true)
+              | else-last-kind h ↦ rw h.work-is (row_again r.graph r.node i.0 c.loop-e-test.true i.2 w.if-reached-v-eq0.false)
+            ])
+      ],
     )
-
-pub shape_of-reached : goal.shape_of-reached
-shape_of-reached c = c.loop-e.invariant.2.queue.marks_long ∙ sym c.requires.queue.marks_long
-
-pub shape_of-work : goal.shape_of-work
-shape_of-work c = c.loop-e.invariant.2.same.long
 
 pub returns : goal.returns
 returns c =

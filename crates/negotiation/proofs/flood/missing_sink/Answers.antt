@@ -1,6 +1,5 @@
 -- `negotiation::flood::missing_sink` meets its contract: every sink that the loop has passed is marked.
 -- Assumes nothing.
-use Prim.Native.Nat.{◌-◌}
 use native.Mathlib.Omega.{arith}
 use borrow.Author.Count.{below_more}
 use Rattle.negotiation.proofs.flood.missing_sink.Goals as goal

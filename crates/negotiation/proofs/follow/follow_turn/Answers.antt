@@ -15,32 +15,29 @@ use Rattle.negotiation.proofs.follow.follow_turn.Goals.{Else-not-frame_follows}
 use Rattle.negotiation.proofs.follow.follow_turn.Goals as goal
 
 -- the frame follows
-follows : (c : Else-not-frame_follows)
-    → frame_follows (length (entry c.before).args.kind.now) (entry c.before).args.tariff.iteration (entry c.before).args.net
-    (drop (entry c.before).args.tariff.words (entry c.before).args.log.now)
-    ≡ true
-follows c = passed c.before.frame_follows.ensures c.if1.false
+follows :
+    (c : Else-not-frame_follows)
+    → frame_follows (length c.args.kind.now) c.args.tariff.iteration c.args.net (drop c.args.tariff.words c.args.log.now) ≡ true
+follows c = passed c.frame_follows.ensures (ap not c.if-not-frame_follows.false)
 
 -- so the log has it
-frame : (c : Else-not-frame_follows)
-    → FrameAt (length (entry c.before).args.kind.now) (entry c.before).args.tariff.iteration (entry c.before).args.net
-    (entry c.before).args.log.now (entry c.before).args.tariff.words
-frame c = frame_at _ _ _ (entry c.before).args.log.now (entry c.before).args.tariff.words (follows c)
+frame : (c : Else-not-frame_follows) → FrameAt (length c.args.kind.now) c.args.tariff.iteration c.args.net c.args.log.now c.args.tariff.words
+frame c = frame_at _ _ _ c.args.log.now c.args.tariff.words (follows c)
 
 pub returns-then-not-frame_follows : goal.returns-then-not-frame_follows
 returns-then-not-frame_follows c = record { value = turn_unframed c.requires _ _ (refused c.frame_follows.ensures (ap not c.if-not-frame_follows.true)); stored = λ some. absurd (some refl) }
 
 pub bounds-log-at : goal.bounds-log-at
-bounds-log-at c = let long = (frame c).long in omega arith
+bounds-log-at c = let long = (frame (goal.at.bounds-log-at c).Else-not-frame_follows).long in omega arith
 
 pub overflow_cast-to : goal.overflow_cast-to
 overflow_cast-to c = omega (arith, c.type_inv.log (c.args.tariff.words + 5))
 
 pub overflow_add-to-3 : goal.overflow_add-to-3
-overflow_add-to-3 c = let long = (frame c).long in omega arith
+overflow_add-to-3 c = let long = (frame (goal.at.overflow_add-to-3 c).Else-not-frame_follows).long in omega arith
 
 pub path_cost-requires : goal.path_cost-requires
-path_cost-requires c = turn-ready c.requires _ _ (follows c)
+path_cost-requires c = turn-ready c.requires _ _ (follows (goal.at.path_cost-requires c).Else-not-frame_follows)
 
 pub cost_is-requires : goal.cost_is-requires
 cost_is-requires c = let long = (frame (goal.at.cost_is-requires c).Else-not-frame_follows).long in omega arith

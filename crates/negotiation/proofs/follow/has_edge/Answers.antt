@@ -1,7 +1,7 @@
 -- `negotiation::follow::has_edge` meets its contract. The invariant: the row that is left has the target or not, as the whole row.
 -- Assumes nothing.
 use mathlib.Core.Path.{sym}
-use Prim.Native.Nat.{◌+◌, ◌-◌, ◌≤◌}
+use Prim.Native.Nat.{◌+◌, ◌≤◌}
 use native.Mathlib.Omega.{arith}
 use lib.ListN.{length, get_or}
 use Rattle.search.proofs.BlockLaws.{first_edges-long, row-end}

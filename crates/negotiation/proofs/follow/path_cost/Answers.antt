@@ -2,47 +2,23 @@
 -- Assumes nothing.
 use mathlib.Core.Bool.{not}
 use Rattle.std.proofs.Common.{ap}
-use mathlib.Core.Bool.{Bool}
 use mathlib.Core.List.{[]}
-use mathlib.Core.Path.{◌≡◌, sym, ◌∙◌}
-use Prim.Native.Nat.{ℕ, ◌+◌, ◌-◌, ◌<◌}
+use mathlib.Core.Path.{sym, ◌∙◌}
+use Prim.Native.Nat.{◌+◌, ◌<◌}
 use native.Mathlib.Omega.{arith}
-use lib.Dec.{ltb}
 use lib.ListN.{length, get_or}
-use Rattle.price.specs.Test.{choose}
-use Rattle.search.specs.Block.{block_of}
 use Rattle.search.specs.Turn.{congestion_of}
 use Rattle.search.proofs.PriceableLaws.{sound-graph}
 use Rattle.search.proofs.KeptLaws.{refused, passed}
-use Rattle.negotiation.specs.ResumeSteps.{step_passes}
 use Rattle.negotiation.proofs.follow.PassLoopLaws.{step_answer, price-block, pass_off, pass_out, pass_first, step_strays, step_node, cost-fits, step_on, pass_done, pass_marked}
-use Rattle.negotiation.proofs.follow.path_cost.Goals.{After-step_passes, Else-not-step_passes, In-loop-k}
+use Rattle.negotiation.proofs.follow.path_cost.Goals.{Else-not-step_passes}
 use Rattle.negotiation.proofs.follow.path_cost.Goals as goal
 
-abbrev in_loop_k : After-step_passes → In-loop-k
-in_loop_k c = c.before.before.before
-
-abbrev in_loop_k_2 : Else-not-step_passes → In-loop-k
-in_loop_k_2 c = c.before.before.before.before
-
--- the node that the turn goes to
-abbrev node : In-loop-k → ℕ
-node t = get_or t.args.log.now t.loop-k.k 0
-
--- what the test of the step says
-abbrev Says : In-loop-k → Bool → Type 0
-Says t answer =
-    answer
-    ≡ step_passes (block_of t.args.kind.now t.args.capacity.now t.args.first_edge.now t.args.edge_target.now)
-    t.args.goals.now t.loop-k.in_tree t.loop-k.u (node t) (choose (ltb (t.loop-k.k + 1) t.args.to) 0 1)
-
-said : (c : After-step_passes) → Says (in_loop_k c) c.step_passes.result
-said c = step_answer _ _ _ _ _ _ _ _ (c.loop-k.k + 1) c.args.to c.step_passes.ensures c.last_mark-last.ensures
-
 -- a step that passes goes to a node
-reached : (c : Else-not-step_passes) → node (in_loop_k_2 c) < length c.args.kind.now
+reached : (c : Else-not-step_passes) → get_or c.args.log.now c.loop-k.k 0 < length c.args.kind.now
 reached c =
-    step_node c.requires c.loop-k.invariant c.loop-k-test.true (passed (said c.before) (ap not c.if-not-step_passes.false))
+    step_node c.requires c.loop-k.invariant c.loop-k-test.true
+    (passed (step_answer _ _ _ _ _ _ _ _ (c.loop-k.k + 1) c.args.to c.step_passes.ensures c.last_mark-last.ensures) (ap not c.if-not-step_passes.false))
 
 pub offset_bounds-log-from : goal.offset_bounds-log-from
 offset_bounds-log-from c =
@@ -94,9 +70,6 @@ bounds-log-k c =
 pub overflow_cast-v : goal.overflow_cast-v
 overflow_cast-v c = omega (arith, c.type_inv.log c.loop-k.k)
 
-pub last_mark-last-requires : goal.last_mark-last-requires
-last_mark-last-requires c = tt
-
 pub step_passes-requires : goal.step_passes-requires
 step_passes-requires c =
     let r = c.requires in
@@ -107,7 +80,11 @@ shape_of-in_tree-then-not-step_passes c =
     c.loop-k.invariant.marks_long ∙ sym c.requires.turn.marks_long
 
 pub returns-then-not-step_passes : goal.returns-then-not-step_passes
-returns-then-not-step_passes c = record { value = step_strays c.requires c.loop-k.invariant c.loop-k-test.true (refused (said (goal.at.returns-then-not-step_passes c).After-step_passes) (ap not c.if-not-step_passes.true)); path_marked = tt }
+returns-then-not-step_passes c = record {
+  value = step_strays c.requires c.loop-k.invariant c.loop-k-test.true
+      (refused (step_answer _ _ _ _ _ _ _ _ (c.loop-k.k + 1) c.args.to c.step_passes.ensures c.last_mark-last.ensures) (ap not c.if-not-step_passes.true));
+  path_marked = tt;
+}
 
 pub node_price-cost-requires : goal.node_price-cost-requires
 node_price-cost-requires c = c.requires.turn.prices _ (reached c)
@@ -124,7 +101,8 @@ bounds-in_tree-v c =
 
 pub loop-k-preserved : goal.loop-k-preserved
 loop-k-preserved c =
-    step_on c.requires c.loop-k.invariant c.loop-k-test.true _ (passed (said (goal.at.loop-k-preserved c).After-step_passes) (ap not c.if-not-step_passes.false))
+    step_on c.requires c.loop-k.invariant c.loop-k-test.true _
+    (passed (step_answer _ _ _ _ _ _ _ _ (c.loop-k.k + 1) c.args.to c.step_passes.ensures c.last_mark-last.ensures) (ap not c.if-not-step_passes.false))
     (price-block _ _ _ _ _ _ c.node_price-cost.ensures.0) c.node_price-cost.ensures.1
 
 pub shape_of-in_tree : goal.shape_of-in_tree

@@ -1,6 +1,6 @@
 -- `join::gather_bytes` meets its contract. The loop's invariant: the entries at the places passed are gathered.
 -- Assumes nothing.
-use Prim.Native.Nat.{◌-◌, ◌<◌}
+use Prim.Native.Nat.{◌<◌}
 use native.Mathlib.Omega.{arith}
 use lib.ListN.{length, get_or}
 use Rattle.std.proofs.Common.{rules}

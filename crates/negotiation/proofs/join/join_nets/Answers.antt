@@ -1,7 +1,6 @@
 -- `join::join_nets` meets its contract. The loop's invariant: the places of the nets passed stand first, and where each net's begin.
 -- Assumes nothing.
 use mathlib.Core.Path.{sym, ◌∙◌}
-use Prim.Native.Nat.{◌-◌}
 use native.Mathlib.Omega.{arith}
 use lib.ListN.{length-set}
 use Rattle.negotiation.proofs.JoiningLaws.{joining_none, joining_few, joining_room, joining_more, joining_all}
@@ -22,12 +21,16 @@ slice_bounds-join_one-end c = sym c.loop-net.invariant.seen-long
 pub join_one-count-requires : goal.join_one-count-requires
 join_one-count-requires c =
     let inv = c.loop-net.invariant in
-    ((c.requires.joinable, joining_room inv c.requires.source_in_bounds.1), (c.loop-net-test.true, inv.places_of))
+    record {
+      joinable = (c.requires.joinable, joining_room inv c.requires.source_in_bounds.1);
+      net_in_bounds = c.loop-net-test.true;
+      placed = inv.places_of;
+    }
 
 pub loop-net-preserved : goal.loop-net-preserved
 loop-net-preserved c =
-    let kept = c.join_one-count.auto.1.1.1.1 in
-    joining_more c.loop-net.invariant c.loop-net-test.true c.requires.source_in_bounds.0 kept.1.0 kept.0 c.join_one-count.ensures
+    let kept = c.join_one-count.auto in
+    joining_more c.loop-net.invariant c.loop-net-test.true c.requires.source_in_bounds.0 kept.places kept.seen c.join_one-count.ensures
 
 pub overflow_cast-firsts-2 : goal.overflow_cast-firsts-2
 overflow_cast-firsts-2 c = omega (arith, joining_few c.loop-net.invariant c.requires.joinable)

@@ -1,6 +1,6 @@
 -- `join::take_listed` meets its contract. The loop's invariant: of every beginning the places passed are taken.
 -- Assumes nothing.
-use Prim.Native.Nat.{◌-◌, ◌<◌}
+use Prim.Native.Nat.{◌<◌}
 use native.Mathlib.Omega.{arith}
 use lib.ListN.{length, get_or}
 use Rattle.std.proofs.Common.{rules}
@@ -10,7 +10,7 @@ use Rattle.negotiation.proofs.join.take_listed.Goals as goal
 
 -- the sink has a stamp, and there is room for its place
 node : (c : In-loop-p) → get_or c.args.sink.now c.loop-p.p 0 < length c.loop-p.seen
-node c = rw c.loop-p.invariant.seen-long (c.requires.all_below.0 c.loop-p.p (search rules))
+node c = rw c.loop-p.invariant.seen-long (c.requires.all_below c.loop-p.p (search rules))
 
 room : (c : In-loop-p) → c.loop-p.count < length c.loop-p.places
 room c = omega arith
@@ -38,7 +38,13 @@ bounds-places-count c = room (goal.at.bounds-places-count c).In-loop-p
 
 pub loop-p-preserved : goal.loop-p-preserved
 loop-p-preserved c =
-    (elim c.if-seen-s.branch [ then-seen-s w ↦ rw (w.count-is, w.2, w.3) (taking-more c.loop-p.invariant c.loop-p-test.true (node (goal.at.loop-p-preserved c).In-loop-p) w.if-seen-s.true (room (goal.at.loop-p-preserved c).In-loop-p)) | else-seen-s w ↦ rw (w.count-is, w.2, w.3) (taking-kept c.loop-p.invariant c.loop-p-test.true (node (goal.at.loop-p-preserved c).In-loop-p) w.if-seen-s.false) ])
+    let turn = (goal.at.loop-p-preserved c).In-loop-p in
+    let inv = c.loop-p.invariant in
+    let more = c.loop-p-test.true in
+    elim c.if-seen-s.branch [
+      | then-seen-s w ↦ rw (w.count-is, w.seen-is, w.places-is) (taking-more inv more (node turn) w.if-seen-s.true (room turn))
+      | else-seen-s w ↦ rw (w.count-is, w.seen-is, w.places-is) (taking-kept inv more (node turn) w.if-seen-s.false)
+    ]
 
 pub shape_of-seen : goal.shape_of-seen
 shape_of-seen c = c.loop-p.invariant.seen-long

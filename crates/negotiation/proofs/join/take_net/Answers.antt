@@ -21,10 +21,12 @@ overflow_cast-to c = omega (arith, c.type_inv.first_sink (c.args.k + 1))
 pub take_listed-requires : goal.take_listed-requires
 take_listed-requires c =
     let tables = c.requires.joinable.0 in
-    let k = c.args.k in (
-      (tables.order k c.requires.net_in_bounds.0.1, tables.end (k + 1) (search rules), tables.sinks-few),
-      (λ i l. le_trans (tables.sinks-below i l) c.requires.joinable.1.seen-room, c.requires.net_in_bounds.1 c.if-source-k.false),
-    )
+    let k = c.args.k in
+    record {
+      from_le_to = (tables.order k c.requires.net_in_bounds.1, tables.end (k + 1) (search rules), tables.sinks-few);
+      all_below = λ i l. le_trans (tables.sinks-below i l) c.requires.joinable.1.seen-room;
+      from_in_bounds = c.requires.k_in_bounds c.if-source-k.false;
+    }
 
 pub returns : goal.returns
 returns c =

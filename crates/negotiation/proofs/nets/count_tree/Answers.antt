@@ -6,7 +6,7 @@ use Rattle.negotiation.proofs.nets.count_tree.Goals as goal
 pub add_records-requires : goal.add_records-requires
 add_records-requires c =
     let ready = c.requires in
-    ((ready.order, ready.within, ready.users-long), (ready.whole, count-can-add ready))
+    record { from_le_until = (ready.order, ready.within, ready.users-long); whole = ready.whole; can_add_marked = count-can-add ready }
 
 pub returns : goal.returns
 returns c =

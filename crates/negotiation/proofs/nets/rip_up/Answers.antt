@@ -6,7 +6,7 @@ use Rattle.negotiation.proofs.nets.rip_up.Goals as goal
 pub drop_records-requires : goal.drop_records-requires
 drop_records-requires c =
     let ready = c.requires in
-    ((ready.order, ready.within, ready.users-long), (ready.whole, rip_can-drop ready))
+    record { from_le_until = (ready.order, ready.within, ready.users-long); whole = ready.whole; ready = rip_can-drop ready }
 
 pub unmark_records-requires : goal.unmark_records-requires
 unmark_records-requires c =

@@ -42,14 +42,15 @@ module _ (c : After-follow_tried-tried) where
   marks_long = c.follow_tried-tried.auto.in_tree ∙ c.loop-place.invariant.2
 
   work-same : SameFrom (8 * length c.args.kind.now) c.args.work.now work
-  work-same = same_twice c.loop-place.invariant.4 c.follow_tried-tried.ensures.stored.1
+  work-same = same_twice c.loop-place.invariant.4 c.follow_tried-tried.ensures.same_from
 
 pub returns-then-turns-eq0 : goal.returns-then-turns-eq0
 returns-then-turns-eq0 c =
-    ((λ z. (refl, refl)), ((λ sources first_sinks terms p o. absurd (let some = o.some in let none = c.if-turns-eq0.true in omega arith)), record { long = refl; high = λ k l. refl }))
-
-pub offset_bounds-sink-from : goal.offset_bounds-sink-from
-offset_bounds-sink-from c = let o = (asked c).opens in omega (arith, part-order _ o, part_small _ o)
+    record {
+      value = λ z. (refl, refl);
+      net_answered = λ sources first_sinks terms p o. absurd (let some = o.some in let none = c.if-turns-eq0.true in omega arith);
+      same_from = record { long = refl; high = λ k l. refl };
+    }
 
 pub slice_bounds-missing_sink-count : goal.slice_bounds-missing_sink-count
 slice_bounds-missing_sink-count c = part-order _ (asked c).opens
@@ -69,18 +70,14 @@ loop-place-init c = ((λ sources first_sinks terms p o. follow_start _ o _), c.m
 pub overflow_sub-to : goal.overflow_sub-to
 overflow_sub-to c = part-order _ (asked (goal.at.overflow_sub-to c).Else-turns-eq0).opens
 
-pub shape_of-in_tree-then-left-eq0 : goal.shape_of-in_tree-then-left-eq0
-shape_of-in_tree-then-left-eq0 c = c.loop-place.invariant.2
-
-pub shape_of-work-then-left-eq0 : goal.shape_of-work-then-left-eq0
-shape_of-work-then-left-eq0 c = c.loop-place.invariant.4.long
-
 pub returns-then-left-eq0 : goal.returns-then-left-eq0
 returns-then-left-eq0 c =
-    let inv = c.loop-place.invariant in (
-      (λ z. absurd (c.if-turns-eq0.false z)),
-      ((λ sources first_sinks terms p o. follow_out _ o (inv.0 _ _ _ _ o) inv.1 c.loop-place-test.true c.if-left-eq0.true), inv.4),
-    )
+    let inv = c.loop-place.invariant in
+    record {
+      value = λ z. absurd (c.if-turns-eq0.false z);
+      net_answered = λ sources first_sinks terms p o. follow_out _ o (inv.0 _ _ _ _ o) inv.1 c.loop-place-test.true c.if-left-eq0.true;
+      same_from = inv.4;
+    }
 
 pub follow_tried-tried-requires : goal.follow_tried-tried-requires
 follow_tried-tried-requires c =
@@ -94,38 +91,25 @@ stopped-requires c =
     let o = (asked (goal.at.stopped-requires c).Else-turns-eq0).opens in
     follow_some _ o (c.loop-place.invariant.0 _ _ _ _ o)
 
-pub shape_of-in_tree-in_default : goal.shape_of-in_tree-in_default
-shape_of-in_tree-in_default c = marks_long (goal.at.shape_of-in_tree-in_default c).After-follow_tried-tried
-
-pub shape_of-work-in_default : goal.shape_of-work-in_default
-shape_of-work-in_default c = (work-same (goal.at.shape_of-work-in_default c).After-follow_tried-tried).long
-
 pub returns-in_default : goal.returns-in_default
 returns-in_default c =
-    let inv = c.loop-place.invariant in (
-      (λ z. absurd (c.if-turns-eq0.false z)),
-      (
-        (λ sources first_sinks terms p o.
-            follow_stopped _ o (inv.0 _ _ _ _ o) inv.1 c.loop-place-test.true c.if-left-eq0.false (small (goal.at.returns-in_default c).Else-turns-eq0) c.follow_tried-tried.ensures.value
-            c.args.walk.over (marks (goal.at.returns-in_default c).After-follow_tried-tried) (λ k e. miss (0 ∷ 1 ∷ 2 ∷ []) 3 tt (rw e at c.in-Follows.keys2)) c.stopped.result c.stopped.ensures),
-        work-same (goal.at.returns-in_default c).After-follow_tried-tried,
-      ),
-    )
+    let inv = c.loop-place.invariant in
+    record {
+      value = λ z. absurd (c.if-turns-eq0.false z);
+      net_answered = λ sources first_sinks terms p o.
+          follow_stopped _ o (inv.0 _ _ _ _ o) inv.1 c.loop-place-test.true c.if-left-eq0.false (small (goal.at.returns-in_default c).Else-turns-eq0) c.follow_tried-tried.ensures.value
+          c.args.walk.over (marks (goal.at.returns-in_default c).After-follow_tried-tried) c.in_default.not-Follows c.stopped.result c.stopped.ensures;
+      same_from = work-same (goal.at.returns-in_default c).After-follow_tried-tried;
+    }
 
 pub turn_logged-tariff-requires : goal.turn_logged-tariff-requires
 turn_logged-tariff-requires c =
     let inv = c.loop-place.invariant in
     let o = (asked (goal.at.turn_logged-tariff-requires c).Else-turns-eq0).opens in
-    let short : length c.args.log.now < 2 ^ 64 = omega (arith, c.good.1.1.1.1.1.1.1.1.1.1.1.1.1.1.1.1.1.1.0.1) in
+    let short : length c.args.log.now < 2 ^ 64 = omega (arith, c.well_formed) in
     let room =
     follow_room _ o (inv.0 _ _ _ _ o) inv.1 c.loop-place-test.true c.if-left-eq0.false (small (goal.at.turn_logged-tariff-requires c).Else-turns-eq0) c.follow_tried-tried.ensures.value c.in-Follows.is short in
-    (room.0, room.1, omega (arith, inv.3, c.good.1.1.1.1.1.1.1.1.1.1.1.0))
-
-pub overflow_sub-left : goal.overflow_sub-left
-overflow_sub-left c = some_of _ c.if-left-eq0.false
-
-pub offset_bounds-sink-from-in-loop-place : goal.offset_bounds-sink-from-in-loop-place
-offset_bounds-sink-from-in-loop-place c = let o = (asked (goal.at.offset_bounds-sink-from-in-loop-place c).Else-turns-eq0).opens in omega (arith, part-order _ o, part_small _ o)
+    (room.0, room.1, omega (arith, inv.3, c.well_formed))
 
 pub slice_bounds-missing_sink-count-in-loop-place : goal.slice_bounds-missing_sink-count-in-loop-place
 slice_bounds-missing_sink-count-in-loop-place c = part-order _ (asked (goal.at.slice_bounds-missing_sink-count-in-loop-place c).Else-turns-eq0).opens
@@ -147,22 +131,18 @@ loop-place-preserved c =
     let inv = c.loop-place.invariant in (
       (λ sources first_sinks terms p o.
           follow_more _ o (inv.0 _ _ _ _ o) inv.1 c.loop-place-test.true c.if-left-eq0.false (small (goal.at.loop-place-preserved c).Else-turns-eq0) c.follow_tried-tried.ensures.value
-          c.in-Follows.is (c.follow_tried-tried.ensures.stored.0 _ c.in-Follows.is) c.turn_logged-tariff.ensures),
-      missing-more inv.1 (c.follow_tried-tried.ensures.stored.0 _ c.in-Follows.is) c.missing_sink-place-in-loop-place.ensures,
+          c.in-Follows.is (c.follow_tried-tried.ensures.stored _ c.in-Follows.is) c.turn_logged-tariff.ensures),
+      missing-more inv.1 (c.follow_tried-tried.ensures.stored _ c.in-Follows.is) c.missing_sink-place-in-loop-place.ensures,
       marks_long (goal.at.loop-place-preserved c).After-follow_tried-tried,
       ap (λ (x : Tariff). x.expanded) c.turn_logged-tariff.ensures ∙ add-zero c.loop-place.tariff.expanded ∙ inv.3,
       work-same (goal.at.loop-place-preserved c).After-follow_tried-tried,
     )
 
-pub shape_of-in_tree : goal.shape_of-in_tree
-shape_of-in_tree c = c.loop-place.invariant.2
-
-pub shape_of-work : goal.shape_of-work
-shape_of-work c = c.loop-place.invariant.4.long
-
 pub returns : goal.returns
 returns c =
-    let inv = c.loop-place.invariant in (
-      (λ z. absurd (c.if-turns-eq0.false z)),
-      ((λ sources first_sinks terms p o. follow_on _ o (inv.0 _ _ _ _ o) inv.1 c.loop-place-test.false), inv.4),
-    )
+    let inv = c.loop-place.invariant in
+    record {
+      value = λ z. absurd (c.if-turns-eq0.false z);
+      net_answered = λ sources first_sinks terms p o. follow_on _ o (inv.0 _ _ _ _ o) inv.1 c.loop-place-test.false;
+      same_from = inv.4;
+    }

@@ -16,91 +16,63 @@ use Rattle.negotiation.specs.TakeSteps.{NetTables, NetsOpen, NetsOn}
 use Rattle.job.specs.declared.Terms.{Terms}
 use Rattle.negotiation.proofs.KeepTurn.{same_twice}
 use Rattle.negotiation.proofs.take_up.TakeNetLaws.{net_tables, nets-start, nets-long, net-ready, net_asks, nets-stopped, end-ready, net-next, nets-all}
-use Rattle.negotiation.proofs.take_up.follow_nets.Goals.{After-follow_net-taken, At-loop-net, Start}
+use Rattle.negotiation.proofs.take_up.follow_nets.Goals.{After-follow_net-taken, At-loop-net}
 use Rattle.negotiation.proofs.take_up.follow_nets.Goals as goal
 
-abbrev entry : At-loop-net → Start
-entry c = c.before.before.before.before.before.before.before.before.before.before.before.before.before.before.before.before.before.before
-
-module _ (e : Start) where
+module _ (c : At-loop-net) where
   abbrev job_with_lem : Terms → Job
   job_with_lem terms =
-      job_of e.args.kind.now e.args.capacity.now e.args.first_edge.now e.args.edge_target.now e.args.source.now e.args.first_sink.now
-      e.args.sink.now e.args.delay.now e.args.criticality.now terms
-
-  abbrev OpenAt : Terms → Progress → Type 0
-  OpenAt terms p =
-      NetsOpen (job_with_lem terms) p e.args.begun e.args.history.now e.args.users.now e.args.in_tree.now e.args.tree_from.now
-      e.args.tree_to.now e.args.due.now e.args.log.now
+      job_of c.args.kind.now c.args.capacity.now c.args.first_edge.now c.args.edge_target.now c.args.source.now c.args.first_sink.now
+      c.args.sink.now c.args.delay.now c.args.criticality.now terms
 
   -- the terms and the progress that are asked for
   abbrev job : Job
-  job = job_with_lem e.requires.0.terms
+  job = job_with_lem c.requires.0.terms
 
-  opened : OpenAt e.requires.0.terms e.requires.0.progress
-  opened = e.requires.0.open_so
+  opened :
+      NetsOpen job c.requires.0.progress c.args.begun c.args.history.now c.args.users.now c.args.in_tree.now c.args.tree_from.now
+      c.args.tree_to.now c.args.due.now c.args.log.now
+  opened = c.requires.0.open_so
 
   routable : Routable job
   routable = opened.routable
 
   -- the tables of a net
   tables :
-      (terms : Terms) → e.args.timed ≡ terms.timed → (i : ℕ)
-      → NetTables (job_with_lem terms) i e.args.delay.now e.args.criticality.now e.args.timed (get_or e.args.first_sink.now i 0)
-      (get_or e.args.first_sink.now (i + 1) 0)
+      (terms : Terms) → c.args.timed ≡ terms.timed → (i : ℕ)
+      → NetTables (job_with_lem terms) i c.args.delay.now c.args.criticality.now c.args.timed (get_or c.args.first_sink.now i 0)
+      (get_or c.args.first_sink.now (i + 1) 0)
   tables terms w i = net_tables _ _ _ _ _ _ _ _ _ terms i w
 
-module _ (c : At-loop-net) where
   -- the nets so far, of what is asked for
   so_far :
-      NetsOn c.args.walk.audit (job (entry c)) c.requires.0.progress c.loop-net.net c.loop-net.tariff c.args.history.now c.loop-net.users c.loop-net.in_tree c.loop-net.tree_from
-      c.loop-net.tree_to c.args.log.now
-  so_far = c.loop-net.invariant.0 _ _ c.requires.0.timed_is (opened (entry c))
+      NetsOn c.args.walk.audit job c.requires.0.progress c.loop-net.net c.loop-net.tariff c.args.history.now c.loop-net.users c.loop-net.in_tree
+      c.loop-net.tree_from c.loop-net.tree_to c.args.log.now
+  so_far = c.loop-net.invariant.0 _ _ c.requires.0.timed_is opened
 
 module _ (c : After-follow_net-taken) where
   -- the work memory that they leave
   work-same :
       SameFrom (8 * length c.args.kind.now) c.args.work.now c.follow_net-taken.new.work
-  work-same = same_twice c.loop-net.invariant.2 c.follow_net-taken.ensures.net_answered.1
+  work-same = same_twice c.loop-net.invariant.2 c.follow_net-taken.ensures.same_from
 
 pub loop-net-init : goal.loop-net-init
 loop-net-init c = ((λ terms p w o. nets-start _ _ o), omega arith, record { long = refl; high = λ k l. refl })
 
-pub offset_bounds-first_sink-net : goal.offset_bounds-first_sink-net
-offset_bounds-first_sink-net c = let f = (routable (goal.at.offset_bounds-first_sink-net c).Start).nets-few in let h = c.loop-net-test.true in omega arith
-
 pub bounds-first_sink-net : goal.bounds-first_sink-net
-bounds-first_sink-net c = let l = (routable (goal.at.bounds-first_sink-net c).Start).first_sinks-long in let h = c.loop-net-test.true in omega arith
-
-pub overflow_cast-from : goal.overflow_cast-from
-overflow_cast-from c = omega (arith, c.type_inv.first_sink c.loop-net.net)
-
-pub overflow_add-to : goal.overflow_add-to
-overflow_add-to c = let f = (routable (goal.at.overflow_add-to c).Start).nets-few in let h = c.loop-net-test.true in omega arith
-
-pub offset_bounds-first_sink-net-in-loop-net : goal.offset_bounds-first_sink-net-in-loop-net
-offset_bounds-first_sink-net-in-loop-net c = let f = (routable (goal.at.offset_bounds-first_sink-net-in-loop-net c).Start).nets-few in let h = c.loop-net-test.true in omega arith
+bounds-first_sink-net c = let l = (routable (goal.at.bounds-first_sink-net c).At-loop-net).first_sinks-long in let h = c.loop-net-test.true in omega arith
 
 pub bounds-first_sink-net-in-loop-net : goal.bounds-first_sink-net-in-loop-net
-bounds-first_sink-net-in-loop-net c = let l = (routable (goal.at.bounds-first_sink-net-in-loop-net c).Start).first_sinks-long in let h = c.loop-net-test.true in omega arith
-
-pub overflow_cast-to : goal.overflow_cast-to
-overflow_cast-to c = omega (arith, c.type_inv.first_sink (c.loop-net.net + 1))
+bounds-first_sink-net-in-loop-net c = let l = (routable (goal.at.bounds-first_sink-net-in-loop-net c).At-loop-net).first_sinks-long in let h = c.loop-net-test.true in omega arith
 
 pub begin_net-turns-requires : goal.begin_net-turns-requires
 begin_net-turns-requires c =
-    let o = opened (goal.at.begin_net-turns-requires c).Start in
+    let o = opened (goal.at.begin_net-turns-requires c).At-loop-net in
     net-ready _ o.routable o.due-is (so_far (goal.at.begin_net-turns-requires c).At-loop-net) c.loop-net-test.true
-
-pub overflow_cast-net : goal.overflow_cast-net
-overflow_cast-net c =
-    let f = (routable (goal.at.overflow_cast-net c).Start).nets-few in
-    let h = c.loop-net-test.true in
-    omega arith
 
 pub follow_net-taken-requires : goal.follow_net-taken-requires
 follow_net-taken-requires c =
-    let o = opened (goal.at.follow_net-taken-requires c).Start in
+    let o = opened (goal.at.follow_net-taken-requires c).At-loop-net in
     let room = c.requires.1 in
     let same = c.loop-net.invariant.2.long in
     λ some. (
@@ -111,82 +83,38 @@ follow_net-taken-requires c =
         progress = (so_far (goal.at.follow_net-taken-requires c).At-loop-net).progress;
         opens =
             net_asks _ o.routable o.due-is (so_far (goal.at.follow_net-taken-requires c).At-loop-net) c.loop-net-test.true c.begin_net-turns.ensures.idle c.begin_net-turns.ensures.begun
-            (tables (goal.at.follow_net-taken-requires c).Start _ c.requires.0.timed_is _) some;
+            (tables (goal.at.follow_net-taken-requires c).At-loop-net _ c.requires.0.timed_is _) some;
       },
       omega arith,
     )
-
-pub shape_of-users-in_default : goal.shape_of-users-in_default
-shape_of-users-in_default c =
-    c.begin_net-turns.auto.users ∙ (nets-long _ (so_far (goal.at.shape_of-users-in_default c).At-loop-net)).0 ∙ sym (nets-long _ (nets-start false _ (opened (goal.at.shape_of-users-in_default c).Start))).0
-
-pub shape_of-in_tree-in_default : goal.shape_of-in_tree-in_default
-shape_of-in_tree-in_default c =
-    c.follow_net-taken.auto.in_tree ∙ c.begin_net-turns.auto.in_tree ∙ (nets-long _ (so_far (goal.at.shape_of-in_tree-in_default c).At-loop-net)).1
-    ∙ sym (nets-long _ (nets-start false _ (opened (goal.at.shape_of-in_tree-in_default c).Start))).1
-
-pub shape_of-tree_from-in_default : goal.shape_of-tree_from-in_default
-shape_of-tree_from-in_default c =
-    (nets-long _ (so_far (goal.at.shape_of-tree_from-in_default c).At-loop-net)).2 ∙ sym (nets-long _ (nets-start false _ (opened (goal.at.shape_of-tree_from-in_default c).Start))).2
-
-pub shape_of-tree_to-in_default : goal.shape_of-tree_to-in_default
-shape_of-tree_to-in_default c =
-    (nets-long _ (so_far (goal.at.shape_of-tree_to-in_default c).At-loop-net)).3 ∙ sym (nets-long _ (nets-start false _ (opened (goal.at.shape_of-tree_to-in_default c).Start))).3
-
-pub shape_of-work-in_default : goal.shape_of-work-in_default
-shape_of-work-in_default c = (work-same (goal.at.shape_of-work-in_default c).After-follow_net-taken).long
 
 pub returns-in_default : goal.returns-in_default
 returns-in_default c = record {
   same_from = work-same (goal.at.returns-in_default c).After-follow_net-taken;
   nets_answered = λ terms p w o.
       nets-stopped _ o.routable o.due-is (c.loop-net.invariant.0 _ _ w o) c.loop-net-test.true c.begin_net-turns.ensures.idle c.begin_net-turns.ensures.begun
-      (tables (goal.at.returns-in_default c).Start terms w _) c.args.walk.over c.follow_net-taken.ensures.value (λ q. c.follow_net-taken.ensures.net_answered.0 _ _ _ _ q)
-      (λ t'' e. miss (1 ∷ 2 ∷ 3 ∷ []) 0 tt (rw e at c.in-On.keys2)) _ _ _ _ _;
+      (tables (goal.at.returns-in_default c).At-loop-net terms w _) c.args.walk.over c.follow_net-taken.ensures.value (λ q. c.follow_net-taken.ensures.net_answered _ _ _ _ q)
+      c.in_default.not-On _ _ _ _ _;
 }
 
 pub end_net-requires : goal.end_net-requires
 end_net-requires c =
-    let o = opened (goal.at.end_net-requires c).Start in
+    let o = opened (goal.at.end_net-requires c).At-loop-net in
     end-ready _ o.routable o.due-is (so_far (goal.at.end_net-requires c).At-loop-net) c.loop-net-test.true c.begin_net-turns.ensures.idle c.begin_net-turns.ensures.begun
-    (tables (goal.at.end_net-requires c).Start _ c.requires.0.timed_is _) c.args.walk.over c.follow_net-taken.ensures.value
-    (λ q. c.follow_net-taken.ensures.net_answered.0 _ _ _ _ q) c.in-On.is
-
-pub overflow_add-net : goal.overflow_add-net
-overflow_add-net c =
-    let f = (routable (goal.at.overflow_add-net c).Start).nets-few in
-    let h = c.loop-net-test.true in
-    omega arith
-
-pub loop-net-smaller : goal.loop-net-smaller
-loop-net-smaller c = let h = c.loop-net-test.true in omega arith
+    (tables (goal.at.end_net-requires c).At-loop-net _ c.requires.0.timed_is _) c.args.walk.over c.follow_net-taken.ensures.value
+    (λ q. c.follow_net-taken.ensures.net_answered _ _ _ _ q) c.in-On.is
 
 pub loop-net-preserved : goal.loop-net-preserved
 loop-net-preserved c =
     let few = c.loop-net-test.true in (
       (λ terms p w o.
           net-next _ o.routable o.due-is (c.loop-net.invariant.0 _ _ w o) c.loop-net-test.true c.begin_net-turns.ensures.idle c.begin_net-turns.ensures.begun
-          (tables (goal.at.loop-net-preserved c).Start terms w _) c.args.walk.over c.follow_net-taken.ensures.value
-          (λ q. c.follow_net-taken.ensures.net_answered.0 _ _ _ _ q) c.in-On.is
+          (tables (goal.at.loop-net-preserved c).At-loop-net terms w _) c.args.walk.over c.follow_net-taken.ensures.value
+          (λ q. c.follow_net-taken.ensures.net_answered _ _ _ _ q) c.in-On.is
           c.end_net.ensures.passed c.end_net.ensures.ended),
       omega arith,
       work-same (goal.at.loop-net-preserved c).After-follow_net-taken,
     )
-
-pub shape_of-users : goal.shape_of-users
-shape_of-users c = (nets-long _ (so_far (goal.at.shape_of-users c).At-loop-net)).0 ∙ sym (nets-long _ (nets-start false _ (opened (goal.at.shape_of-users c).Start))).0
-
-pub shape_of-in_tree : goal.shape_of-in_tree
-shape_of-in_tree c = (nets-long _ (so_far (goal.at.shape_of-in_tree c).At-loop-net)).1 ∙ sym (nets-long _ (nets-start false _ (opened (goal.at.shape_of-in_tree c).Start))).1
-
-pub shape_of-tree_from : goal.shape_of-tree_from
-shape_of-tree_from c = (nets-long _ (so_far (goal.at.shape_of-tree_from c).At-loop-net)).2 ∙ sym (nets-long _ (nets-start false _ (opened (goal.at.shape_of-tree_from c).Start))).2
-
-pub shape_of-tree_to : goal.shape_of-tree_to
-shape_of-tree_to c = (nets-long _ (so_far (goal.at.shape_of-tree_to c).At-loop-net)).3 ∙ sym (nets-long _ (nets-start false _ (opened (goal.at.shape_of-tree_to c).Start))).3
-
-pub shape_of-work : goal.shape_of-work
-shape_of-work c = c.loop-net.invariant.2.long
 
 pub returns : goal.returns
 returns c = record { same_from = c.loop-net.invariant.2; nets_answered = λ terms p w o. nets-all _ (c.loop-net.invariant.0 _ _ w o) c.loop-net.invariant.1 c.loop-net-test.false }

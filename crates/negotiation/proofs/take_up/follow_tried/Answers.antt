@@ -10,7 +10,11 @@ use Rattle.negotiation.proofs.take_up.follow_tried.Goals as goal
 
 pub returns-then-ends_here : goal.returns-then-ends_here
 returns-then-ends_here c =
-    (said_ended _ _ _ _ _ c.ends_here.ensures c.if-ends_here.true, ((λ count e. absurd (no_end e)), record { long = refl; high = λ k l. refl }))
+    record {
+      value = said_ended _ _ _ _ _ c.ends_here.ensures c.if-ends_here.true;
+      stored = λ count e. absurd (no_end e);
+      same_from = record { long = refl; high = λ k l. refl };
+    }
 
 pub slice_bounds-goals-end : goal.slice_bounds-goals-end
 slice_bounds-goals-end c = goals-enough c.requires c.next_tried-tried.ensures
@@ -20,20 +24,6 @@ slice_bounds-set_goals-end-2 c = sym (length-take-le _ _ (goals-enough c.require
 
 pub set_goals-requires : goal.set_goals-requires
 set_goals-requires c = goals-asked c.requires c.next_tried-tried.ensures
-
--- the part of table 7 again
-pub offset_bounds-sink-a-2 : goal.offset_bounds-sink-a-2
-offset_bounds-sink-a-2 c =
-    omega (arith, c.next_tried-tried.ensures.order, c.next_tried-tried.ensures.within, c.good.1.1.1.1.0.1)
-
-pub slice_bounds-least_cost-count : goal.slice_bounds-least_cost-count
-slice_bounds-least_cost-count c = c.next_tried-tried.ensures.order
-
-pub slice_bounds-least_cost-start : goal.slice_bounds-least_cost-start
-slice_bounds-least_cost-start c = c.next_tried-tried.ensures.order
-
-pub slice_bounds-least_cost-end : goal.slice_bounds-least_cost-end
-slice_bounds-least_cost-end c = c.next_tried-tried.ensures.within
 
 pub least_cost-least-requires : goal.least_cost-least-requires
 least_cost-least-requires c = least_asks c.requires c.next_tried-tried.ensures
@@ -58,4 +48,8 @@ returns c =
     let answer =
     tried_said c.requires c.next_tried-tried.ensures c.set_goals.ensures _ c.follow_turn-count.ensures.value _ c.ends_here.ensures
     c.if-ends_here.false (least_said c.requires c.next_tried-tried.ensures _ c.least_cost-least.ensures.value) c.judged.ensures in
-    (answer, ((λ count e. c.follow_turn-count.ensures.stored (judged_some _ _ _ c.judged.ensures e)), c.least_cost-least.ensures.same_from))
+    record {
+      value = answer;
+      stored = λ count e. c.follow_turn-count.ensures.stored (judged_some _ _ _ c.judged.ensures e);
+      same_from = c.least_cost-least.ensures.same_from;
+    }

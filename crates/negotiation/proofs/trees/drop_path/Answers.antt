@@ -1,6 +1,6 @@
 -- `negotiation::trees::drop_path` meets its contract: after the turns up to k, the nodes at places below k are marked, and those that were not have one user less.
 -- Assumes nothing.
-use Prim.Native.Nat.{◌-◌, ◌<◌}
+use Prim.Native.Nat.{◌<◌}
 use native.Mathlib.Omega.{arith}
 use lib.ListN.{length, get_or}
 use lib.Seq.{slice_empty}
@@ -12,7 +12,7 @@ use Rattle.negotiation.proofs.trees.drop_path.Goals as goal
 node : (c : In-loop-k) → get_or c.args.log.now c.loop-k.k 0 < length c.loop-k.in_tree
 node c =
     let inv = c.loop-k.invariant in
-    rw inv.1.marks_set.long (node-below c.loop-k-test.true c.requires.all_below.0 inv.0)
+    rw inv.1.marks_set.long (node-below c.loop-k-test.true c.requires.all_below inv.0)
 
 node-user : (c : In-loop-k) → get_or c.args.log.now c.loop-k.k 0 < length c.loop-k.users
 node-user c = let inv = c.loop-k.invariant in omega (arith, node c, inv.1.users-long, inv.1.marks_set.long)
@@ -20,42 +20,30 @@ node-user c = let inv = c.loop-k.invariant in omega (arith, node c, inv.1.users-
 pub loop-k-init : goal.loop-k-init
 loop-k-init c = (between_none _ _ _ c.requires.from_le_to.0 c.requires.from_le_to.1, rw slice_empty (dropped_none _ _ _))
 
-pub overflow_cast-v : goal.overflow_cast-v
-overflow_cast-v c = omega (arith, c.type_inv.log c.loop-k.k)
+pub overflow_sub-users : goal.overflow_sub-users
+overflow_sub-users c =
+    let inv = c.loop-k.invariant in
+    omega (arith, node-can-drop c.loop-k-test.true c.requires.can_drop c.requires.all_below inv.0 inv.1 c.if-in_tree-v-eq0.true)
 
 pub bounds-in_tree-v : goal.bounds-in_tree-v
 bounds-in_tree-v c = omega (arith, node (goal.at.bounds-in_tree-v c).In-loop-k)
 
-pub offset_bounds-users-v : goal.offset_bounds-users-v
-offset_bounds-users-v c = omega (arith, node (goal.at.offset_bounds-users-v c).In-loop-k)
+pub bounds-in_tree-v-in-loop-k : goal.bounds-in_tree-v-in-loop-k
+bounds-in_tree-v-in-loop-k c = omega (arith, node (goal.at.bounds-in_tree-v-in-loop-k c).In-loop-k)
 
 pub bounds-users-v : goal.bounds-users-v
 bounds-users-v c = omega (arith, node-user (goal.at.bounds-users-v c).In-loop-k)
 
-pub overflow_sub-users : goal.overflow_sub-users
-overflow_sub-users c =
-    let inv = c.loop-k.invariant in
-    omega (arith, node-can-drop c.loop-k-test.true c.requires.all_below.1 c.requires.all_below.0 inv.0 inv.1 c.if-in_tree-v-eq0.true)
-
 pub bounds-users-v-then-in_tree-v-eq0 : goal.bounds-users-v-then-in_tree-v-eq0
 bounds-users-v-then-in_tree-v-eq0 c = omega (arith, node-user (goal.at.bounds-users-v-then-in_tree-v-eq0 c).In-loop-k)
-
-pub bounds-in_tree-v-in-loop-k : goal.bounds-in_tree-v-in-loop-k
-bounds-in_tree-v-in-loop-k c = omega (arith, node (goal.at.bounds-in_tree-v-in-loop-k c).In-loop-k)
 
 pub loop-k-preserved : goal.loop-k-preserved
 loop-k-preserved c =
     let inv = c.loop-k.invariant in (
       between_more c.loop-k-test.true inv.0,
       rw (passed_more c.loop-k-test.true inv.0)
-          ((elim c.if-in_tree-v-eq0.branch [ then-in_tree-v-eq0 w ↦ rw w.2 (dropped_append inv.1 (dropped_one _ _ _ _ (node (goal.at.loop-k-preserved c).In-loop-k) (node-user (goal.at.loop-k-preserved c).In-loop-k) w.if-in_tree-v-eq0.true)) | else-in_tree-v-eq0 w ↦ rw w.1 (dropped_append inv.1 (dropped_kept _ _ _ _ (node (goal.at.loop-k-preserved c).In-loop-k) w.if-in_tree-v-eq0.false)) ])),
+          ((elim c.if-in_tree-v-eq0.branch [ then-in_tree-v-eq0 w ↦ rw w.users-is (dropped_append inv.1 (dropped_one _ _ _ _ (node (goal.at.loop-k-preserved c).In-loop-k) (node-user (goal.at.loop-k-preserved c).In-loop-k) w.if-in_tree-v-eq0.true)) | else-in_tree-v-eq0 w ↦ rw w.users-is (dropped_append inv.1 (dropped_kept _ _ _ _ (node (goal.at.loop-k-preserved c).In-loop-k) w.if-in_tree-v-eq0.false)) ])),
     )
-
-pub shape_of-users : goal.shape_of-users
-shape_of-users c = c.loop-k.invariant.1.users-long
-
-pub shape_of-in_tree : goal.shape_of-in_tree
-shape_of-in_tree c = c.loop-k.invariant.1.marks_set.long
 
 pub returns : goal.returns
 returns c = let inv = c.loop-k.invariant in rw (between-all c.loop-k-test.false inv.0) at inv.1

@@ -1,6 +1,6 @@
 -- `negotiation::trees::mark_path` meets its contract: after the turns up to k, the nodes at places below k are marked.
 -- Assumes nothing.
-use Prim.Native.Nat.{◌-◌, ◌<◌}
+use Prim.Native.Nat.{◌<◌}
 use native.Mathlib.Omega.{arith}
 use lib.ListN.{length, get_or}
 use Rattle.job.proofs.MarkLaws.{between_none, between_more, between-all, node-below, passed_more, stored_none, stored_one, stored_append}
@@ -15,16 +15,10 @@ node c =
 pub loop-k-init : goal.loop-k-init
 loop-k-init c = (between_none _ _ _ (omega arith) c.requires.0, stored_none _ _)
 
-pub bounds-in_tree-v : goal.bounds-in_tree-v
-bounds-in_tree-v c = omega (arith, node (goal.at.bounds-in_tree-v c).In-loop-k)
-
 pub loop-k-preserved : goal.loop-k-preserved
 loop-k-preserved c =
     let inv = c.loop-k.invariant in
     (between_more c.loop-k-test.true inv.0, rw (passed_more c.loop-k-test.true inv.0) (stored_append inv.1 (stored_one _ _ _ (node (goal.at.loop-k-preserved c).In-loop-k))))
-
-pub shape_of-in_tree : goal.shape_of-in_tree
-shape_of-in_tree c = c.loop-k.invariant.1.long
 
 pub returns : goal.returns
 returns c = let inv = c.loop-k.invariant in rw (between-all c.loop-k-test.false inv.0) at inv.1

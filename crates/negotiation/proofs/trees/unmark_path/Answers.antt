@@ -1,6 +1,6 @@
 -- `negotiation::trees::unmark_path` meets its contract: after the turns up to k, the marks of the nodes at places below k are cleared.
 -- Assumes nothing.
-use Prim.Native.Nat.{◌-◌, ◌<◌}
+use Prim.Native.Nat.{◌<◌}
 use native.Mathlib.Omega.{arith}
 use lib.ListN.{length, get_or}
 use lib.Seq.{slice_empty}
@@ -16,9 +16,6 @@ node c =
 pub loop-k-init : goal.loop-k-init
 loop-k-init c = (between_none _ _ _ c.requires.from_le_to.0 c.requires.from_le_to.1, rw slice_empty (stored_none _ _))
 
-pub overflow_cast-v : goal.overflow_cast-v
-overflow_cast-v c = omega (arith, c.type_inv.log c.loop-k.k)
-
 pub bounds-in_tree-v : goal.bounds-in_tree-v
 bounds-in_tree-v c = omega (arith, node (goal.at.bounds-in_tree-v c).In-loop-k)
 
@@ -26,9 +23,6 @@ pub loop-k-preserved : goal.loop-k-preserved
 loop-k-preserved c =
     let inv = c.loop-k.invariant in
     (between_more c.loop-k-test.true inv.0, rw (passed_more c.loop-k-test.true inv.0) (stored_append inv.1 (stored_one _ _ _ (node (goal.at.loop-k-preserved c).In-loop-k))))
-
-pub shape_of-in_tree : goal.shape_of-in_tree
-shape_of-in_tree c = c.loop-k.invariant.1.long
 
 pub returns : goal.returns
 returns c = let inv = c.loop-k.invariant in rw (between-all c.loop-k-test.false inv.0) at inv.1

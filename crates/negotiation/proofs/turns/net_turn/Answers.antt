@@ -1,16 +1,10 @@
 -- `negotiation::turns::net_turn` meets its contract: it is one turn for what is tried.
 -- Assumes nothing.
-use native.Mathlib.Omega.{arith}
 use Rattle.negotiation.proofs.NextTriedLaws.{tried-can, tried_done}
 use Rattle.negotiation.proofs.turns.net_turn.Goals as goal
 
-pub offset_bounds-sink-a : goal.offset_bounds-sink-a
-offset_bounds-sink-a c =
-    let tried = c.next_tried-tried.ensures in
-    omega (arith, tried.order, tried.within, c.well_formed.1.1.1.1.1.1.0.1)
-
 pub one_turn-requires : goal.one_turn-requires
-one_turn-requires c = record { ready = tried-can c.next_tried-tried.ensures _ _ _ _ _ c.requires.ready.0; back_lent = c.requires.ready.1 }
+one_turn-requires c = record { ready = tried-can c.next_tried-tried.ensures _ _ _ _ _ c.requires.ready; back_lent = c.requires.back_lent }
 
 pub returns : goal.returns
 returns c = record { answers = tried_done c.next_tried-tried.ensures _ _ _ _ _ c.one_turn.result c.args.tariff _ _ _ _ c.one_turn.ensures.answers; same_from = c.one_turn.ensures.same_from }

@@ -1,25 +1,19 @@
 -- `negotiation::turns::one_turn` meets its contract: without sinks no turn is made; nothing is refused, so the search's answer is the turn, and where its record fits it is logged and marked.
 -- Assumes nothing.
-use mathlib.Core.List.{[], ◌∷◌}
 use native.Mathlib.Omega.{arith}
-use types.Run.{miss}
 use Rattle.negotiation.proofs.turns.OneTurnLaws.{turn-none, turn-joined, turn_other, turn-counts, turn_full, turn-logs}
-use Rattle.negotiation.proofs.turns.one_turn.Goals.{In-Joins-2}
 use Rattle.negotiation.proofs.turns.one_turn.Goals as goal
 
--- from where it joins a sink
-module _ (c : In-Joins-2) where
-
 pub returns-then-sinks-eq0 : goal.returns-then-sinks-eq0
-returns-then-sinks-eq0 c = turn-none _ _ _ _ c.if-sinks-eq0.true
+returns-then-sinks-eq0 c = let h = turn-none _ _ _ _ c.if-sinks-eq0.true in record { answers = h.0; same_from = h.1 }
 
 pub found_path-found-requires : goal.found_path-found-requires
 found_path-found-requires c = record { ready = (c.requires.ready.ready, c.requires.ready.sinks_sound_lem); back_lent = c.requires.back_lent }
 
 pub returns-in_default : goal.returns-in_default
 returns-in_default c =
-    turn_other c.requires.ready c.found_path-found.result.answer
-    (λ place cost count e. miss (1 ∷ 2 ∷ 3 ∷ 4 ∷ 5 ∷ []) 0 tt (rw e at c.in-Joins.keys2)) c.found_path-found.ensures.0
+    let other = turn_other c.requires.ready c.found_path-found.result.answer c.in_default.not-Joins c.found_path-found.ensures.0 in
+    record { answers = other.0; same_from = other.1 }
 
 pub overflow_sub-log : goal.overflow_sub-log
 overflow_sub-log c = c.requires.ready.within
@@ -46,10 +40,10 @@ mark_path-requires c =
 
 pub turn_logged-requires : goal.turn_logged-requires
 turn_logged-requires c =
-    let log-short = c.good.1.1.1.1.1.1.1.1.1.1.1.1.0.1 in (
-      omega (arith, c.if-log-at.false, c.requires.ready.within, log-short, c.requires.ready.few-turns),
-      omega (arith, c.if-log-at.false, c.requires.ready.within, log-short),
-      turn-counts c.requires.ready c.found_path-found.ensures.1,
+    let counts = turn-counts c.requires.ready c.found_path-found.ensures.1 in (
+      omega (arith, c.if-log-at.false, c.requires.ready.within, c.requires.ready.few-turns),
+      omega (arith, c.if-log-at.false, c.requires.ready.within),
+      counts,
     )
 
 pub returns : goal.returns

@@ -12,10 +12,10 @@ pub overflow_add-count : goal.overflow_add-count
 overflow_add-count c = omega (arith, decimal-length c.args.n)
 
 pub loop-left-preserved : goal.loop-left-preserved
-loop-left-preserved c = (omega (arith, count_next c.loop-left.false (search rules) (search rules)), search rules)
+loop-left-preserved c = (omega (arith, count_next c.loop-left.left (search rules) (search rules)), search rules)
 
 pub returns : goal.returns
 returns c =
-    let e = digits_left_none c.loop-left.false (search rules) in
+    let e = digits_left_none c.loop-left.left (search rules) in
     let l = decimal-length c.args.n in
     search rules

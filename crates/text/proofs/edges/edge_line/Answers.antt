@@ -1,48 +1,35 @@
 -- `edges::edge_line` meets its contract: each return is one of the judgements of an E line, in their order.
 -- Assumes nothing.
-use mathlib.Core.Bool.{not}
-use Rattle.std.proofs.Common.{ap}
-use mathlib.Core.List.{List}
-use Prim.Native.Nat.{ℕ}
-use borrow.Author.Tests.{not-true, not-false}
 use Rattle.text.proofs.JudgedLaws.{line_place}
 use Rattle.text.proofs.edges.EdgeLineLaws.{edge-beyond_from, edge-beyond-to, edge_within_lem, edge_loop, edge_order, edge_shape, edge-beyond, edge_wrong, edge-taken}
-use Rattle.text.proofs.edges.edge_line.Goals.{After-line_fields}
 use Rattle.text.proofs.edges.edge_line.Goals as goal
 
--- where the line is read
-abbrev at_of : After-line_fields → ℕ
-at_of d = d.args.at
-
-abbrev text_of : After-line_fields → List ℕ
-text_of d = d.args.text.now
-
 pub returns-in_default : goal.returns-in_default
-returns-in_default c = record { value = edge_shape _ _ _ _ (at_of (goal.at.returns-in_default c).After-line_fields) (text_of (goal.at.returns-in_default c).After-line_fields) c.line_fields.ensures.value c.in_default.is; edge_place = tt }
+returns-in_default c = record { value = edge_shape _ _ _ _ c.args.at c.args.text.now c.line_fields.ensures.value c.in_default.is; edge_place = tt }
 
 pub returns-then-nodes-first : goal.returns-then-nodes-first
-returns-then-nodes-first c = record { value = edge-beyond _ _ _ _ (at_of (goal.at.returns-then-nodes-first c).After-line_fields) (text_of (goal.at.returns-then-nodes-first c).After-line_fields) c.line_fields.ensures.value c.in-Fields.is (edge-beyond_from _ _ _ c.if-nodes-first.true); edge_place = tt }
+returns-then-nodes-first c = record { value = edge-beyond _ _ _ _ c.args.at c.args.text.now c.line_fields.ensures.value c.in-Fields.is (edge-beyond_from _ _ _ c.if-nodes-first.true); edge_place = tt }
 
 pub returns-then-nodes-second : goal.returns-then-nodes-second
-returns-then-nodes-second c = record { value = edge-beyond _ _ _ _ (at_of (goal.at.returns-then-nodes-second c).After-line_fields) (text_of (goal.at.returns-then-nodes-second c).After-line_fields) c.line_fields.ensures.value c.in-Fields.is (edge-beyond-to _ _ _ c.if-nodes-first.false c.if-nodes-second.true); edge_place = tt }
+returns-then-nodes-second c = record { value = edge-beyond _ _ _ _ c.args.at c.args.text.now c.line_fields.ensures.value c.in-Fields.is (edge-beyond-to _ _ _ c.if-nodes-first.false c.if-nodes-second.true); edge_place = tt }
 
 pub returns-then-first-second : goal.returns-then-first-second
 returns-then-first-second c = record {
-  value = edge_wrong _ _ _ _ (at_of (goal.at.returns-then-first-second c).After-line_fields) (text_of (goal.at.returns-then-first-second c).After-line_fields) c.line_fields.ensures.value c.in-Fields.is
+  value = edge_wrong _ _ _ _ c.args.at c.args.text.now c.line_fields.ensures.value c.in-Fields.is
       (edge_within_lem _ _ _ c.if-nodes-first.false c.if-nodes-second.false) (edge_loop _ _ _ _ _ c.if-first-second.true);
   edge_place = tt;
 }
 
 pub returns-then-not-edge_rises : goal.returns-then-not-edge_rises
 returns-then-not-edge_rises c = record {
-  value = edge_wrong _ _ _ _ (at_of (goal.at.returns-then-not-edge_rises c).After-line_fields) (text_of (goal.at.returns-then-not-edge_rises c).After-line_fields) c.line_fields.ensures.value c.in-Fields.is (edge_within_lem _ _ _ c.if-nodes-first.false c.if-nodes-second.false)
-      (edge_order _ _ _ _ _ c.if-first-second.false (not-true _ (ap not c.if-not-edge_rises.true)) c.edge_rises.ensures);
+  value = edge_wrong _ _ _ _ c.args.at c.args.text.now c.line_fields.ensures.value c.in-Fields.is (edge_within_lem _ _ _ c.if-nodes-first.false c.if-nodes-second.false)
+      (edge_order _ _ _ _ _ c.if-first-second.false c.if-not-edge_rises.true c.edge_rises.ensures);
   edge_place = tt;
 }
 
 pub returns : goal.returns
 returns c = record {
-  value = edge-taken _ _ _ _ (at_of (goal.at.returns c).After-line_fields) (text_of (goal.at.returns c).After-line_fields) c.line_fields.ensures.value c.in-Fields.is (edge_within_lem _ _ _ c.if-nodes-first.false c.if-nodes-second.false)
-      (edge_order _ _ _ _ _ c.if-first-second.false (not-false _ (ap not c.if-not-edge_rises.false)) c.edge_rises.ensures);
-  edge_place = (line_place _ (text_of (goal.at.returns c).After-line_fields) c.in-Fields.is c.line_fields.ensures.fields_place, c.if-nodes-first.false, c.if-nodes-second.false);
+  value = edge-taken _ _ _ _ c.args.at c.args.text.now c.line_fields.ensures.value c.in-Fields.is (edge_within_lem _ _ _ c.if-nodes-first.false c.if-nodes-second.false)
+      (edge_order _ _ _ _ _ c.if-first-second.false c.if-not-edge_rises.false c.edge_rises.ensures);
+  edge_place = (line_place _ c.args.text.now c.in-Fields.is c.line_fields.ensures.fields_place, c.if-nodes-first.false, c.if-nodes-second.false);
 }

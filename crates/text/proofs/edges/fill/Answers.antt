@@ -1,7 +1,6 @@
 -- `edges::fill` meets its contract: after the turns up to u, the entries from `from` to below u are the value and the others as before.
 -- Assumes nothing.
 use mathlib.Core.Path.{◌≡◌, refl}
-use Prim.Native.Nat.{◌-◌}
 use native.Mathlib.Omega.{arith}
 use lib.ListN.{length-set}
 use Rattle.text.proofs.edges.EdgeLineLaws.{fill_none, fill_more}
@@ -14,9 +13,6 @@ pub loop-u-preserved : goal.loop-u-preserved
 loop-u-preserved c =
     let s = c.loop-u.invariant in
     (omega arith, omega arith, simp length-set s.2, rw s.3 (fill_more _ _ _ _ s.0 (omega arith)))
-
-pub shape_of-table : goal.shape_of-table
-shape_of-table c = c.loop-u.invariant.2
 
 pub returns : goal.returns
 returns c =

@@ -17,4 +17,7 @@ overflow_add-at c = omega (arith, begins-within comma c.args.at c.args.text.now 
 
 pub returns : goal.returns
 returns c =
-    field-onward c.args.at c.args.text.now c.number.result c.number.ensures (comma-begins c.args.at c.args.text.now (passed c.byte_is.ensures (ap not c.if-not-byte_is.false)))
+    let p =
+    field-onward c.args.at c.args.text.now c.number.result (c.number.ensures.value, c.number.ensures.field_place)
+    (comma-begins c.args.at c.args.text.now (passed c.byte_is.ensures (ap not c.if-not-byte_is.false))) in
+    record { value = p.0; field_place = p.1 }

@@ -36,5 +36,7 @@ further_digits-requires c = (search rules, omega (arith, digit_most _ (digit c))
 
 pub returns : goal.returns
 returns c =
-    field-onward c.args.at c.args.text.now c.further_digits.result c.further_digits.ensures
-    (field-digits c.args.at c.args.text.now (search rules) (search rules) (digit (goal.at.returns c).Else-not-is_digit))
+    let p =
+    field-onward c.args.at c.args.text.now c.further_digits.result (c.further_digits.ensures.value, c.further_digits.ensures.field_place)
+    (field-digits c.args.at c.args.text.now (search rules) (search rules) (digit (goal.at.returns c).Else-not-is_digit)) in
+    record { value = p.0; field_place = p.1 }

@@ -2,22 +2,16 @@
 -- Assumes nothing.
 use mathlib.Core.Bool.{not}
 use Rattle.std.proofs.Common.{ap}
-use mathlib.Core.List.{List}
-use Prim.Native.Nat.{ℕ}
 use Rattle.search.proofs.KeptLaws.{refused, passed}
 use Rattle.text.proofs.JudgedLaws.{line_place}
 use Rattle.text.proofs.head.HeadLineLaws.{head_malformed, head_beyond, head_read}
-use Rattle.text.proofs.head.head_line.Goals.{After-line_fields}
 use Rattle.text.proofs.head.head_line.Goals as goal
 
-abbrev text_of : After-line_fields → List ℕ
-text_of d = d.args.text.now
-
 pub returns-in_default : goal.returns-in_default
-returns-in_default c = record { value = head_malformed (text_of (goal.at.returns-in_default c).After-line_fields) c.line_fields.ensures.value c.in_default.is; head_place = tt }
+returns-in_default c = record { value = head_malformed c.args.text.now c.line_fields.ensures.value c.in_default.is; head_place = tt }
 
 pub returns-then-not-head_within : goal.returns-then-not-head_within
-returns-then-not-head_within c = record { value = head_beyond (text_of (goal.at.returns-then-not-head_within c).After-line_fields) c.line_fields.ensures.value c.in-Fields.is (refused c.head_within.ensures (ap not c.if-not-head_within.true)); head_place = tt }
+returns-then-not-head_within c = record { value = head_beyond c.args.text.now c.line_fields.ensures.value c.in-Fields.is (refused c.head_within.ensures (ap not c.if-not-head_within.true)); head_place = tt }
 
 pub returns : goal.returns
-returns c = record { value = head_read (text_of (goal.at.returns c).After-line_fields) c.line_fields.ensures.value c.in-Fields.is (passed c.head_within.ensures (ap not c.if-not-head_within.false)); head_place = line_place 1 (text_of (goal.at.returns c).After-line_fields) c.in-Fields.is c.line_fields.ensures.fields_place }
+returns c = record { value = head_read c.args.text.now c.line_fields.ensures.value c.in-Fields.is (passed c.head_within.ensures (ap not c.if-not-head_within.false)); head_place = line_place 1 c.args.text.now c.in-Fields.is c.line_fields.ensures.fields_place }

@@ -11,7 +11,10 @@ loop-net-init c = first_none _
 
 pub loop-net-preserved : goal.loop-net-preserved
 loop-net-preserved c =
-    (elim c.if-first_of-net.branch [ then-first_of-net w ↦ rw w.1 (first_marked c.loop-net.invariant (search rules) c.first_of.ensures (search rules) (search rules)) | else-first_of-net w ↦ rw w.1 (first_passed c.loop-net.invariant (search rules) c.first_of.ensures w.if-first_of-net.false) ])
+    elim c.if-first_of-net.branch [
+      | then-first_of-net w ↦ rw w.marks-is (first_marked c.loop-net.invariant (search rules) c.first_of.ensures (search rules) (search rules))
+      | else-first_of-net w ↦ rw w.marks-is (first_passed c.loop-net.invariant (search rules) c.first_of.ensures w.if-first_of-net.false)
+    ]
 
 pub returns : goal.returns
 returns c = first_all c.loop-net.invariant (search rules)

@@ -11,7 +11,12 @@ loop-net-init c = counted_none _
 
 pub loop-net-preserved : goal.loop-net-preserved
 loop-net-preserved c =
-    (elim c.if-first-net.branch [ then-first-net w ↦ rw w.2 (counted_later c.loop-net.invariant (search rules) c.first_of-first.ensures w.if-first-net.true w.bytes-is.ensures.0 w.bytes-is.ensures.1) | else-first-net w ↦ rw w.bytes-is (counted_first c.loop-net.invariant (search rules) c.first_of-first.ensures w.if-first-net.false) ])
+    elim c.if-first-net.branch [
+      | then-first-net w ↦
+          rw w.bytes-is
+          (counted_later c.loop-net.invariant (search rules) c.first_of-first.ensures w.if-first-net.true w.two_length.ensures.0 w.two_length.ensures.1)
+      | else-first-net w ↦ rw w.bytes-is (counted_first c.loop-net.invariant (search rules) c.first_of-first.ensures w.if-first-net.false)
+    ]
 
 pub returns : goal.returns
 returns c = counted-all c.loop-net.invariant (search rules) (search rules)

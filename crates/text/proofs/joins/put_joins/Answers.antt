@@ -15,7 +15,14 @@ put_two-at-requires c =
 
 pub loop-net-preserved : goal.loop-net-preserved
 loop-net-preserved c =
-    (elim c.if-first-net.branch [ then-first-net w ↦ rw (w.5, w.6) (joins-more (search rules) c.loop-net.invariant (search rules) c.first_of-first.ensures w.if-first-net.true w.2.ensures) | else-first-net w ↦ rw (w.at-is, w.2) (joins_first (search rules) c.loop-net.invariant (search rules) c.first_of-first.ensures w.if-first-net.false) ])
+    elim c.if-first-net.branch [
+      | then-first-net w ↦
+          rw (w.buffer-is, w.at-is)
+          (joins-more (search rules) c.loop-net.invariant (search rules) c.first_of-first.ensures w.if-first-net.true w.put_two-at.ensures)
+      | else-first-net w ↦
+          rw (w.buffer-is, w.at-is)
+          (joins_first (search rules) c.loop-net.invariant (search rules) c.first_of-first.ensures w.if-first-net.false)
+    ]
 
 pub shape_of-buffer : goal.shape_of-buffer
 shape_of-buffer c = joins-same (search rules) c.loop-net.invariant

@@ -71,7 +71,13 @@ loop-at-smaller c = omega (arith, c.record_end-end.ensures, within (goal.at.loop
 
 pub loop-at-preserved : goal.loop-at-preserved
 loop-at-preserved c =
-    (elim c.if-begins_anew.branch [ then-begins_anew w ↦ rw w.1 (finding_anew c.loop-at.invariant c.loop-at-test.true c.record_end-end.ensures c.begins_anew.ensures w.if-begins_anew.true) | else-begins_anew w ↦ rw w.1 (finding_same c.loop-at.invariant c.loop-at-test.true c.record_end-end.ensures c.begins_anew.ensures w.if-begins_anew.false) ])
+    let end = c.record_end-end.ensures in
+    elim c.if-begins_anew.branch [
+      | then-begins_anew w ↦
+          rw w.from-is (finding_anew c.loop-at.invariant c.loop-at-test.true end c.begins_anew.ensures w.if-begins_anew.true)
+      | else-begins_anew w ↦
+          rw w.from-is (finding_same c.loop-at.invariant c.loop-at-test.true end c.begins_anew.ensures w.if-begins_anew.false)
+    ]
 
 pub shape_of-from : goal.shape_of-from
 shape_of-from c = c.loop-at.invariant.from_long ∙ sym c.requires.from_len.0

@@ -1,5 +1,6 @@
 -- `text::nets::add_sink` meets its contract: the line that is read stands in the tables, and its node bears the stamp.
 -- Assumes nothing.
+use mathlib.Core.Bool.{Bool}
 use mathlib.Core.List.{List}
 use mathlib.Core.Path.{refl}
 use Prim.Native.Nat.{ℕ, ◌-◌, ◌<◌}
@@ -10,16 +11,13 @@ use Rattle.job.specs.Tables.{sink_kind}
 use Rattle.text.specs.JobText.{Reading, sink_line, taking, of_kind}
 use Rattle.text.specs.Steps.{three_of}
 use Rattle.text.proofs.NetLineLaws.{bearing, bearing_marked, sink-few, sink_reading, sink-refused, sink_place}
-use Rattle.text.proofs.nets.add_sink.Goals.{In-Sink, Start}
+use Rattle.text.specs.declared.nets.NetCursor.{NetCursor}
+use Rattle.text.proofs.nets.add_sink.Goals.{In-Sink}
 use Rattle.text.proofs.nets.add_sink.Goals as goal
 
-abbrev entry : In-Sink → Start
-entry c = c.before.before.before.before.before.before.before.before.before
-
-abbrev reading : Start → List ℕ → Reading (List ℕ)
-reading s pins =
-    let a = s.args in
-    of_kind sink_kind a.kind.now (taking three_of (sink_line a.timed a.nodes a.nets (a.c.nets - 1) pins a.c.sinks (drop a.c.at a.text.now)))
+-- what a T line gives
+abbrev reading : Bool → List ℕ → ℕ → ℕ → NetCursor → List ℕ → List ℕ → Reading (List ℕ)
+reading timed kinds nodes nets c text pins = of_kind sink_kind kinds (taking three_of (sink_line timed nodes nets (c.nets - 1) pins c.sinks (drop c.at text)))
 
 -- a sink that is read was not one too many
 few : (c : In-Sink) → c.args.c.sinks < sinks_most
@@ -28,7 +26,7 @@ few c =
     let pins = bearing a.nodes a.c.nets a.seen.now in
     let marked = bearing_marked a.c.nets a.seen.now a.nodes in
     sink-few a.timed a.kind.now a.nodes a.nets (a.c.nets - 1) pins a.c.sinks (drop a.c.at a.text.now)
-    (sink_reading (a.c.nets - 1) a.text.now {r = reading (entry c) pins} (c.sink_line.ensures.by_index pins marked) c.in-Sink.is)
+    (sink_reading (a.c.nets - 1) a.text.now {r = reading a.timed a.kind.now a.nodes a.nets a.c a.text.now pins} (c.sink_line.ensures.by_index pins marked) c.in-Sink.is)
 
 pub offset_bounds-sink-sinks : goal.offset_bounds-sink-sinks
 offset_bounds-sink-sinks c = omega (arith, few c)
@@ -55,7 +53,7 @@ returns-in-Sink c =
     λ pins m. (
       _,
       _,
-      sink_reading (a.c.nets - 1) a.text.now {r = reading (goal.at.returns-in-Sink c).Start pins} (c.sink_line.ensures.by_index pins m) is,
+      sink_reading (a.c.nets - 1) a.text.now {r = reading a.timed a.kind.now a.nodes a.nets a.c a.text.now pins} (c.sink_line.ensures.by_index pins m) is,
       place.1,
       place.0,
       refl,
@@ -70,4 +68,4 @@ returns-in-Sink c =
 pub returns-in-Refused : goal.returns-in-Refused
 returns-in-Refused c =
     let a = c.args in
-    λ pins m. sink-refused (a.c.nets - 1) a.text.now {r = reading (goal.at.returns-in-Refused c).Start pins} (c.sink_line.ensures.by_index pins m) c.in-Refused.is
+    λ pins m. sink-refused (a.c.nets - 1) a.text.now {r = reading a.timed a.kind.now a.nodes a.nets a.c a.text.now pins} (c.sink_line.ensures.by_index pins m) c.in-Refused.is

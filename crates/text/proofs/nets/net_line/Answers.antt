@@ -17,7 +17,8 @@ returns-then-source_due c =
     let kept = c.requires in
     let due = c.source_due.ensures in
     let below = due_below a.c.nets a.nets a.c.first a.c.sinks due c.if-source_due.true in
-    source_step kept.0 a.timed _ kept.1 c.add_source.result _ _ _ c.if-b-eq83.true (due-is kept.0 ∙ sym due ∙ c.if-source_due.true) below c.add_source.ensures
+    let p = source_step kept.0 a.timed _ kept.1 c.add_source.result _ _ _ c.if-b-eq83.true (due-is kept.0 ∙ sym due ∙ c.if-source_due.true) below c.add_source.ensures in
+    record { criticality_after = p.0; kept_after = p.1 }
 
 pub returns-then-b-eq83 : goal.returns-then-b-eq83
 returns-then-b-eq83 c =
@@ -26,7 +27,8 @@ returns-then-b-eq83 c =
 pub returns-then-c-ge1 : goal.returns-then-c-ge1
 returns-then-c-ge1 c =
     let kept = c.requires in
-    sink_step kept.0 c.args.timed _ kept.1 c.add_sink.result _ _ _ c.if-b-eq83.false c.if-b-eq84.true c.if-c-ge1.true c.add_sink.ensures
+    let p = sink_step kept.0 c.args.timed _ kept.1 c.add_sink.result _ _ _ c.if-b-eq83.false c.if-b-eq84.true c.if-c-ge1.true c.add_sink.ensures in
+    record { criticality_after = p.0; kept_after = p.1 }
 
 pub returns-else-c-ge1 : goal.returns-else-c-ge1
 returns-else-c-ge1 c = record { criticality_after = no_net c.requires.0 c.args.timed _ c.requires.1 c.if-b-eq83.false c.if-c-ge1.false; kept_after = tt }

@@ -1,7 +1,6 @@
 -- `text::nets::read_nets` meets its contract: the lines that are left give with the lists so far what all of them give.
 -- Assumes nothing.
 use mathlib.Core.List.{[]}
-use mathlib.Core.Path.{◌≡◌}
 use Prim.Native.Nat.{◌-◌}
 use lib.ListN.{length, drop}
 use Rattle.text.specs.JobText.{net_lists, net_lines}
@@ -11,7 +10,6 @@ use Rattle.text.proofs.nets.read_nets.Given as goal
 abbrev pub invariant-loop-c : goal.invariant-loop-c
 invariant-loop-c l =
     Going l.timed l.kind l.nodes l.nets l.text (net_lines (length (drop l.from l.text)) l.timed l.kind l.nodes l.nets (net_lists [] [] [] []) l.first_line (drop l.from l.text)) l.c l.source l.first_sink l.sink l.criticality l.seen
-    × (length l.source ≡ length l.initial.source) × (length l.first_sink ≡ length l.initial.first_sink) × (length l.sink ≡ length l.initial.sink) × (length l.criticality ≡ length l.initial.criticality) × (length l.seen ≡ 4096)
 
 abbrev pub decreases-loop-c : goal.decreases-loop-c
 decreases-loop-c l =

@@ -1,7 +1,6 @@
 -- `nodes::read_nodes` meets its contract: between two lines the tables hold the nodes read, and the lines that follow give the rest (`NodesRead`).
 -- The measure: nodes left.
 -- Assumes nothing.
-use Prim.Native.Nat.{◌-◌}
 use Rattle.text.proofs.nodes.NodeLineLaws.{nodes-none, nodes-more, nodes_stop, nodes-end}
 use Rattle.text.proofs.nodes.read_nodes.Goals as goal
 
@@ -13,26 +12,8 @@ pub loop-v-preserved : goal.loop-v-preserved
 loop-v-preserved c =
     nodes-more c.requires.nodes_in_bounds c.loop-v.invariant c.loop-v-test.true c.in-Node.is c.node_line.ensures.value c.node_line.ensures.node_place
 
-pub shape_of-kind-in-Refused : goal.shape_of-kind-in-Refused
-shape_of-kind-in-Refused c = c.loop-v.invariant.kinds-same
-
-pub shape_of-capacity-in-Refused : goal.shape_of-capacity-in-Refused
-shape_of-capacity-in-Refused c = c.loop-v.invariant.capacities-same
-
-pub shape_of-delay-in-Refused : goal.shape_of-delay-in-Refused
-shape_of-delay-in-Refused c = c.loop-v.invariant.delays-same
-
 pub returns-in-Refused : goal.returns-in-Refused
 returns-in-Refused c = record { delay_after = nodes_stop c.requires.nodes_in_bounds c.loop-v.invariant c.loop-v-test.true c.in-Refused.is c.node_line.ensures.value; lines_place = tt }
-
-pub shape_of-kind : goal.shape_of-kind
-shape_of-kind c = c.loop-v.invariant.kinds-same
-
-pub shape_of-capacity : goal.shape_of-capacity
-shape_of-capacity c = c.loop-v.invariant.capacities-same
-
-pub shape_of-delay : goal.shape_of-delay
-shape_of-delay c = c.loop-v.invariant.delays-same
 
 pub returns : goal.returns
 returns c = record { delay_after = nodes-end c.requires.nodes_in_bounds c.loop-v.invariant c.loop-v-test.false; lines_place = (c.loop-v.invariant.at_most, c.loop-v.invariant.line-most) }

@@ -11,14 +11,11 @@ use Rattle.text.proofs.printing.print_line.Goals.{Else-buffer-at-2}
 use Rattle.text.proofs.printing.print_line.Goals as goal
 
 -- the line fits
-fits : (c : Else-buffer-at-2)
-    → (entry c.before).args.at + length (print_line (entry c.before).args.letter (entry c.before).args.fields.now) ≤ length (entry c.before).args.buffer.now
+fits : (c : Else-buffer-at-2) → c.args.at + length (print_line c.args.letter c.args.fields.now) ≤ length c.args.buffer.now
 fits c =
-    let start = entry c.before in
-    let size = line_size start.args.letter start.args.fields.now in
-    let counted = line_size 0 start.args.fields.now in
-    let good = start.good in
-    omega (arith, c.if2.false)
+    let size = line_size c.args.letter c.args.fields.now in
+    let counted = line_size 0 c.args.fields.now in
+    omega (arith, c.well_formed)
 
 pub returns-then-buffer-at : goal.returns-then-buffer-at
 returns-then-buffer-at c = record { answers = line-short _ _ _ _ (search rules) }
@@ -33,14 +30,16 @@ pub put_byte-next-requires : goal.put_byte-next-requires
 put_byte-next-requires c =
     let a = c.args in
     let size = line_size a.letter a.fields.now in
-    let room = fits c in
+    let room = fits (goal.at.put_byte-next-requires c).Else-buffer-at-2 in
     search rules
 
 pub put_fields-requires : goal.put_fields-requires
 put_fields-requires c =
     let a = c.args in
     let size = line_size a.letter a.fields.now in
-    put-room c.put_byte-next.ensures _ (omega (arith, fits c))
+    put-room c.put_byte-next.ensures _ (omega (arith, fits (goal.at.put_fields-requires c).Else-buffer-at-2))
 
 pub returns : goal.returns
-returns c = record { answers = line-written _ _ _ _ (fits (goal.at.returns c).Else-buffer-at-2) (put_letter_then _ c.put_byte-next.ensures (fits (goal.at.returns c).Else-buffer-at-2) (λ room. c.put_fields.ensures)) }
+returns c =
+    let room = fits (goal.at.returns c).Else-buffer-at-2 in
+    record { answers = line-written _ _ _ _ room (put_letter_then _ c.put_byte-next.ensures room (λ room. c.put_fields.ensures)) }

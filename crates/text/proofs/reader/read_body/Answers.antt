@@ -23,58 +23,21 @@ slice_bounds-read_edges_nets-end-in-Read c = sym (length-take-le _ _ (kinds_fit 
 pub read_edges_nets-requires : goal.read_edges_nets-requires
 read_edges_nets-requires c =
     let nodes = c.read_nodes in
-    let place = read_place c.args.text.now nodes.result _ _ c.in-Read.is nodes.ensures.1 in
-    let long = length-take-le c.args.nodes nodes.last.1.1.1.1.1.0 (kinds_fit (goal.at.read_edges_nets-requires c).In-Read) in record { counts_within = (c.requires.counts_within.0, place.0, place.1, omega (arith, long)); edge_room = (c.requires.room_for_all.edge-room, c.requires.room_for_all.net-room) }
-
-pub shape_of-kind-in-Read : goal.shape_of-kind-in-Read
-shape_of-kind-in-Read c = c.read_nodes.auto.kind
-
-pub shape_of-capacity-in-Read : goal.shape_of-capacity-in-Read
-shape_of-capacity-in-Read c = c.read_nodes.auto.capacity
-
-pub shape_of-first_edge : goal.shape_of-first_edge
-shape_of-first_edge c = c.read_edges_nets.auto.first_edge
-
-pub shape_of-edge_target : goal.shape_of-edge_target
-shape_of-edge_target c = c.read_edges_nets.auto.edge_target
-
-pub shape_of-source : goal.shape_of-source
-shape_of-source c = c.read_edges_nets.auto.source
-
-pub shape_of-first_sink : goal.shape_of-first_sink
-shape_of-first_sink c = c.read_edges_nets.auto.first_sink
-
-pub shape_of-sink : goal.shape_of-sink
-shape_of-sink c = c.read_edges_nets.auto.sink
-
-pub shape_of-delay-in-Read : goal.shape_of-delay-in-Read
-shape_of-delay-in-Read c = c.read_nodes.auto.delay
-
-pub shape_of-criticality : goal.shape_of-criticality
-shape_of-criticality c = c.read_edges_nets.auto.criticality
+    let place = read_place c.args.text.now nodes.result _ _ c.in-Read.is nodes.ensures.lines_place in
+    let long = length-take-le c.args.nodes nodes.new.kind (kinds_fit (goal.at.read_edges_nets-requires c).In-Read) in record { counts_within = (c.requires.counts_within.0, place.0, place.1, omega (arith, long)); edge_room = (c.requires.room_for_all.edge-room, c.requires.room_for_all.net-room) }
 
 pub returns-in-Read : goal.returns-in-Read
 returns-in-Read c =
     let a = c.args in
     let nodes = c.read_nodes in
     let wires = c.read_edges_nets in
-    let n = nodes.last.1.1.1.1.1 in
-    let w = wires.last.1.1.1.1.1.1.1.1 in
-    let place = c.at-1.given in record {
-      criticality_after = nodes-wires a.timed a.nodes a.edges a.nets a.line place.0.0 place.0.1.0 a.text.now (drop a.from a.text.now) nodes.result wires.result
-          n.0 n.1.0 w.0 w.1.0 w.1.1.0 w.1.1.1.0 w.1.1.1.1.0 n.1.1.0 w.1.1.1.1.1.0 place.1 nodes.ensures.0 wires.ensures.0;
-      nets_end = wires.ensures.1;
+    let n = nodes.new in
+    let w = wires.new in record {
+      criticality_after = nodes-wires a.timed a.nodes a.edges a.nets a.line c.in-Read.at c.in-Read.next a.text.now (drop a.from a.text.now) nodes.result wires.result
+          n.kind n.capacity w.first_edge w.edge_target w.source w.first_sink w.sink n.delay w.criticality c.in-Read.is nodes.ensures.delay_after wires.ensures.criticality_after;
+      nets_end = wires.ensures.nets_end;
     }
-
-pub shape_of-kind-in-Stopped : goal.shape_of-kind-in-Stopped
-shape_of-kind-in-Stopped c = c.read_nodes.auto.kind
-
-pub shape_of-capacity-in-Stopped : goal.shape_of-capacity-in-Stopped
-shape_of-capacity-in-Stopped c = c.read_nodes.auto.capacity
-
-pub shape_of-delay-in-Stopped : goal.shape_of-delay-in-Stopped
-shape_of-delay-in-Stopped c = c.read_nodes.auto.delay
 
 pub returns-in-Stopped : goal.returns-in-Stopped
 returns-in-Stopped c =
-    let nodes = c.read_nodes in record { criticality_after = nodes_stop _ _ _ _ _ _ _ _ _ _ _ _ _ c.in-Stopped.is nodes.ensures.0; nets_end = tt }
+    let nodes = c.read_nodes in record { criticality_after = nodes_stop _ _ _ _ _ _ _ _ _ _ _ _ _ c.in-Stopped.is nodes.ensures.delay_after; nets_end = tt }

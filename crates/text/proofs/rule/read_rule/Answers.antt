@@ -11,5 +11,6 @@ unfolding rule_part rule_line rule_within
 returns c =
     let a = c.args in
     let r = c.rule_line-found.result in
-    optional_given letter_v rule_fields rule_within (with_rule a.terms) a.terms a.at a.line a.text.now (r.rule ∷ r.until ∷ []) r.shape
-    c.requires c.rule_line-found.ensures c.rule_sound.ensures c.terms_after.ensures
+    let p = optional_given letter_v rule_fields rule_within (with_rule a.terms) a.terms a.at a.line a.text.now (r.rule ∷ r.until ∷ []) r.shape
+    c.requires c.rule_line-found.ensures c.rule_sound.ensures c.terms_after.ensures in
+    record { value = p.0; terms_place = p.1 }

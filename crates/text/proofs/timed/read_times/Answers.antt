@@ -13,5 +13,6 @@ unfolding timed_part timed_line
 returns c =
     let a = c.args in
     let r = c.optional_line-found.result in
-    optional_given letter_w (line letter_w 0) (λ vs. true) (with_times a.terms) a.terms a.at a.line a.text.now [] r.shape
-    c.requires c.optional_line-found.ensures refl c.terms_after.ensures
+    let p = optional_given letter_w (line letter_w 0) (λ vs. true) (with_times a.terms) a.terms a.at a.line a.text.now [] r.shape
+    c.requires c.optional_line-found.ensures refl c.terms_after.ensures in
+    record { value = p.0; terms_place = p.1 }

@@ -11,5 +11,6 @@ unfolding tuning_part tuning_line tuning_within
 returns c =
     let a = c.args in
     let r = c.optional_line-found.result in
-    optional_given letter_p (line letter_p 4) tuning_within (with_tuning a.terms) a.terms a.at a.line a.text.now (r.first ∷ r.second ∷ r.third ∷ r.fourth ∷ []) r.shape
-    c.requires c.optional_line-found.ensures c.tuning_sound.ensures c.terms_after.ensures
+    let p = optional_given letter_p (line letter_p 4) tuning_within (with_tuning a.terms) a.terms a.at a.line a.text.now (r.first ∷ r.second ∷ r.third ∷ r.fourth ∷ []) r.shape
+    c.requires c.optional_line-found.ensures c.tuning_sound.ensures c.terms_after.ensures in
+    record { value = p.0; terms_place = p.1 }

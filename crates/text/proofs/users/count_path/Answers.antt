@@ -51,10 +51,15 @@ bounds-stamps-v-in-loop-k c = omega (arith, node (goal.at.bounds-stamps-v-in-loo
 
 pub loop-k-preserved : goal.loop-k-preserved
 loop-k-preserved c =
-    let inv = c.loop-k.invariant in (
+    let inv = c.loop-k.invariant in
+    let stamps = node (goal.at.loop-k-preserved c).In-loop-k in
+    let users = node-user (goal.at.loop-k-preserved c).In-loop-k in (
       between_more c.loop-k-test.true inv.0,
       rw (passed_more c.loop-k-test.true inv.0)
-          ((elim c.if-stamps-v.branch [ then-stamps-v w ↦ rw w.2 (counted-append inv.1 (counted_one _ _ _ _ (node (goal.at.loop-k-preserved c).In-loop-k) (node-user (goal.at.loop-k-preserved c).In-loop-k) w.if-stamps-v.true)) | else-stamps-v w ↦ rw w.1 (counted-append inv.1 (counted-kept _ _ _ _ (node (goal.at.loop-k-preserved c).In-loop-k) w.if-stamps-v.false)) ])),
+          (elim c.if-stamps-v.branch [
+            | then-stamps-v w ↦ rw w.users-is (counted-append inv.1 (counted_one _ _ _ _ stamps users w.if-stamps-v.true))
+            | else-stamps-v w ↦ rw w.users-is (counted-append inv.1 (counted-kept _ _ _ _ stamps w.if-stamps-v.false))
+          ]),
     )
 
 pub shape_of-users : goal.shape_of-users

@@ -40,7 +40,15 @@ count_path-requires c =
     let is = c.record_end-end.ensures in
     let inv = c.loop-at.invariant in
     let next = within (goal.at.count_path-requires c).In-loop-at in
-    let long : length c.loop-at.users ≡ 4096 = inv.users-long ∙ c.requires.all_sound.1 in record { from_le_to = (omega (arith, is), omega (arith, is, next), omega (arith, inv.users-long, inv.stamps-long, c.requires.all_sound.1, c.requires.all_sound.2)); all_below = (subst (λ (n : ℕ). AllBelow n (slice (c.loop-at.at + 6) c.record_end-end.result c.args.log.now)) (sym long) (path-below inv.rest inv.nodes-few c.loop-at-test.true is), inv.few) }
+    let long : length c.loop-at.users ≡ 4096 = inv.users-long ∙ c.requires.all_sound.1 in
+    record {
+      from_le_to = (omega (arith, is), omega (arith, is, next), omega (arith, inv.users-long, inv.stamps-long, c.requires.all_sound.1, c.requires.all_sound.2));
+      all_below = (
+        subst (λ (n : ℕ). AllBelow n (slice (c.loop-at.at + 6) c.record_end-end.result c.args.log.now)) (sym long)
+            (path-below inv.rest inv.nodes-few c.loop-at-test.true is),
+        inv.few,
+      );
+    }
 
 pub loop-at-smaller-then-log-at : goal.loop-at-smaller-then-log-at
 loop-at-smaller-then-log-at c = omega (arith, c.record_end-end.ensures, within (goal.at.loop-at-smaller-then-log-at c).In-loop-at)

@@ -25,7 +25,11 @@ returns-then-logs-gt-LOGS_MOST c = refused-logs _ _ c.faulty_block-table.ensures
 pub tally-requires : goal.tally-requires
 tally-requires c =
     let b = block (goal.at.tally-requires c).Start in
-    let sound = no_fault b c.faulty_block-table.ensures (search rules) in record { kind_value = ((sound_of b sound).kinds_sound_lem, few-nodes b sound); sums_len = (refl, λ k l. let zero = get_or-replicate {A = ℕ} kind_count k 0 0 l in omega arith) }
+    let sound = no_fault b c.faulty_block-table.ensures (search rules) in
+    record {
+      kind_value = ((sound_of b sound).kinds_sound_lem, few-nodes b sound);
+      sums_len = (refl, λ k l. let zero = get_or-replicate {A = ℕ} kind_count k 0 0 l in omega arith);
+    }
 
 pub first_over-over-requires : goal.first_over-over-requires
 first_over-over-requires c =

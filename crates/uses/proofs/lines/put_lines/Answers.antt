@@ -14,13 +14,13 @@ use Rattle.uses.proofs.lines.put_lines.Goals as goal
 
 -- the text has room
 room : (c : Start) → 0 + length (concat_from (total_line c.args.uses.now c.args.totals.now c.args.logs) 0 (kind_count - 0)) ≤ length c.args.buffer.now
-room c = from_first (total_line c.args.uses.now c.args.totals.now c.args.logs) kind_count 0 (length c.args.buffer.now) (omega (arith, c.requires.by_index.1))
+room c = from_first (total_line c.args.uses.now c.args.totals.now c.args.logs) kind_count 0 (length c.args.buffer.now) (omega (arith, c.requires.kind_count_in_bounds))
 
 pub loop-k-init : goal.loop-k-init
 loop-k-init c = joining_none _ _ _ _ _ (room (goal.at.loop-k-init c).Start) (search rules)
 
 pub overflow_mul-fields : goal.overflow_mul-fields
-overflow_mul-fields c = record { fits = c.requires.by_index.0 c.loop-k.k (search rules) }
+overflow_mul-fields c = record { fits = c.requires.by_index c.loop-k.k (search rules) }
 
 pub loop-k-preserved : goal.loop-k-preserved
 loop-k-preserved c =
