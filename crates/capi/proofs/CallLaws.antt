@@ -21,8 +21,6 @@ use Rattle.negotiation.specs.Audit.{AuditReply, audit_reply_of}
 use Rattle.negotiation.specs.Aimed.{expanded_after}
 use Rattle.negotiation.specs.declared.AuditAnswer.{AuditAnswer}
 use Rattle.negotiation.specs.declared.RouteAnswer.{RouteAnswer}
-use Rattle.negotiation.specs.declared.Outcome.{Outcome}
-use Rattle.negotiation.specs.declared.Outcome.TheVariants as o
 use Rattle.text.specs.ReadReplies.{Tables, read_refusal, read_numbers, read_reply_of, read_reply}
 use Rattle.text.specs.Routes.{WriteReply}
 use Rattle.text.specs.declared.ReadAnswer.{ReadAnswer}
@@ -31,20 +29,6 @@ use Rattle.uses.specs.declared.AddAnswer.{AddAnswer}
 use Rattle.uses.proofs.UsesHold.{counts-long}
 use Rattle.capi.specs.Calls.{out_entries, Call, call_of, out_with, priced_call, search_done, searched_call, RouteCall, route_done, routed_call, counted_call, read_done, read_call, WriteCall, write_done, written_call}
 use Rattle.capi.specs.Calls.{audit_done, audited_call, add_done, add_call, uses_call}
-
--- ---- numbers in `out`: stores over entries of 0
-
-pub six_put :
-    (out start : List ℕ) (number first second a b c : ℕ) → start ≡ replicate out_entries 0 ++ drop out_entries out
-    → set (set (set (set (set (set start 0 number) 1 first) 2 second) 3 a) 4 b) 5 c
-    ≡ out_with (number ∷ first ∷ second ∷ []) (a ∷ b ∷ c ∷ []) out
-six_put out start number first second a b c h = rw h
-
-pub twelve_put :
-    (out start : List ℕ) (a b c d e f g h i k l m t : ℕ) → start ≡ replicate out_entries 0 ++ drop out_entries out → m ≡ t
-    → set (set (set (set (set (set (set (set (set (set (set (set start 3 a) 4 b) 5 c) 6 d) 7 e) 8 f) 9 g) 10 h) 11 i) 12 k) 13 l) 14 m
-    ≡ out_with [] (a ∷ b ∷ c ∷ d ∷ e ∷ f ∷ g ∷ h ∷ i ∷ k ∷ l ∷ t ∷ []) out
-twelve_put out start a b c d e f g h i k l m t cleared last = rw (cleared, last)
 
 -- ---- the price
 
@@ -113,19 +97,6 @@ plain_called j lent reply work log out is = is
 
 -- ---- the audit
 
--- an outcome but that of a turn that is not cheapest has at most three numbers
-pub no_fourth :
-    (outcome : Outcome) → ((word cost least : ℕ) → outcome ≡ o.NotCheapest word cost least → ⊥) → 0 ≡ get_or (route_refusal outcome 0 0) 3 0
-no_fourth o.Accepted other = refl
-no_fourth (o.Unreachable net place) other = refl
-no_fourth o.LogFull other = refl
-no_fourth (o.Limit over) other = refl
-no_fourth (o.BadTable table) other = refl
-no_fourth (o.ShortWork needed) other = refl
-no_fourth (o.Diverges word) other = refl
-no_fourth (o.TooLarge nodes limit) other = refl
-no_fourth (o.NotCheapest word cost least) other = absurd (other word cost least refl)
-
 module _ (reply : AuditReply) (work out : List ℕ) where
   pub audit_short : length out < out_entries → audit_done (call_of 0 out) work ≡ audited_call reply work out
   unfolding audited_call
@@ -179,7 +150,7 @@ module _ (counts : List ℕ) {all : List ℕ} (copied : all ≡ take kind_count 
 
   -- after a log it is as long
   module _ (long : kind_count ≤ length counts) (b : Block) (logs : ℕ) (log : List ℕ) (r : AddAnswer) {after : List ℕ} (answers : add_reply_of logs r after ≡ add_reply b (use_counts_of all logs) log) where
-    pub after-long : length after ≡ kind_count
+    after-long : length after ≡ kind_count
     after-long =
         ap (λ (reply : AddReply). length reply.counts.uses) answers
         ∙ counts-long b (use_counts_of all logs) log (ap length copied_all ∙ length-take-le kind_count counts long)

