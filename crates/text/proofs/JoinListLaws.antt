@@ -2,7 +2,7 @@
 --     joins_only, joins-all         a net is among them exactly where another is the first of its source
 --     join_printable                a line gives it back
 -- Assumes nothing.
-use mathlib.Core.Bool.{true, false}
+use mathlib.Core.Bool.{false}
 use mathlib.Core.List.Memᴰ
 use mathlib.Core.List.{List, [], ◌∷◌, Memᴰ}
 use mathlib.Core.Logic.{⊎_elim}

@@ -3,7 +3,7 @@
 --     Short, all_short              its records name what they may
 --     step_printable                so a line gives back each step of their paths
 -- Assumes nothing.
-use mathlib.Core.Bool.{true, false}
+use mathlib.Core.Bool.{true}
 use mathlib.Core.List.Memᴰ
 use mathlib.Core.List.{List, [], ◌∷◌, Memᴰ}
 use mathlib.Core.Logic.{⊎_elim}

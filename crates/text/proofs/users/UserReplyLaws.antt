@@ -15,7 +15,7 @@ use Rattle.price.proofs.TestLaws.{le_or_lt}
 use Rattle.job.specs.Tables.{nets_most}
 use Rattle.negotiation.specs.Records.{decode}
 use Rattle.text.specs.Routes.{log_sound}
-use Rattle.text.specs.Users.{sound, unsound, log_checked, checked_at, below_nodes, nets_with, users_reply, users_reply_of}
+use Rattle.text.specs.Users.{log_checked, checked_at, below_nodes, nets_with, users_reply, users_reply_of}
 use Rattle.text.specs.WriteSteps.{AllSound, LogTested, net_marked, named_by}
 use Rattle.text.specs.declared.log_check.LogCheck.{LogCheck}
 use Rattle.text.specs.declared.log_check.LogCheck.TheVariants as k

@@ -1,6 +1,5 @@
 -- `text::branches::put_branches` meets its contract. The loop's invariant: the branches of the nets passed are counted, and written where there is room.
 -- Assumes nothing.
-use Prim.Native.Nat.{◌-◌}
 use native.Mathlib.Omega.{arith}
 use lib.ListN.{get_or}
 use Rattle.std.proofs.Common.{rules}

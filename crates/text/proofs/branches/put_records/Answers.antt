@@ -1,6 +1,6 @@
 -- `text::branches::put_records` meets its contract. The loop's invariant: the branches of the net's records passed are counted, and written where there is room.
 -- Assumes nothing.
-use Prim.Native.Nat.{◌-◌, ◌≤◌}
+use Prim.Native.Nat.{◌≤◌}
 use native.Mathlib.Omega.{arith}
 use lib.ListN.{length}
 use Rattle.std.proofs.Common.{rules}

@@ -1,6 +1,5 @@
 -- `text::branches::put_steps` meets its contract. The loop's invariant: the lines of the steps passed are counted, and written where there is room.
 -- Assumes nothing.
-use Prim.Native.Nat.{◌-◌}
 use Rattle.std.proofs.Common.{rules}
 use Rattle.text.proofs.StepTextLaws.{putting_none, putting_more, putting_all}
 use Rattle.text.proofs.branches.put_steps.Goals as goal

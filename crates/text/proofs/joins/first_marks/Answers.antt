@@ -1,6 +1,5 @@
 -- `text::joins::first_marks` meets its contract. The loop's invariant: of the nets passed, those that are the first of their source are marked.
 -- Assumes nothing.
-use Prim.Native.Nat.{◌-◌}
 use Rattle.std.proofs.Common.{rules}
 use Rattle.text.proofs.joins.JoinTextLaws.{first_none, first_marked, first_passed, first_all}
 use Rattle.text.proofs.joins.first_marks.Goals.{else-first_of-net, then-first_of-net}

@@ -1,6 +1,5 @@
 -- `text::joins::joins_length` meets its contract. The loop's invariant: the bytes of the lines passed are counted.
 -- Assumes nothing.
-use Prim.Native.Nat.{◌-◌}
 use Rattle.std.proofs.Common.{rules}
 use Rattle.text.proofs.joins.JoinTextLaws.{counted_none, counted_first, counted_later, counted-all}
 use Rattle.text.proofs.joins.joins_length.Goals.{else-first-net, then-first-net}

@@ -1,6 +1,5 @@
 -- `text::joins::put_joins` meets its contract. The loop's invariant: the lines of the nets passed stand in the buffer.
 -- Assumes nothing.
-use Prim.Native.Nat.{◌-◌}
 use Rattle.std.proofs.Common.{rules}
 use Rattle.text.proofs.joins.JoinTextLaws.{joins-none, joins-same, joins-all, joins_first, joins-room, joins-more}
 use Rattle.text.proofs.joins.put_joins.Goals.{else-first-net, then-first-net}

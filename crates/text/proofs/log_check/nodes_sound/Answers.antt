@@ -1,7 +1,6 @@
 -- `text::log_check::nodes_sound` meets its contract. The loop's invariant: the words passed are node numbers.
 -- Assumes nothing.
 use mathlib.Core.Path.{sym}
-use Prim.Native.Nat.{◌-◌}
 use native.Mathlib.Omega.{arith}
 use Rattle.std.proofs.Common.{rules}
 use Rattle.text.proofs.RecordTestLaws.{below_none, below_more, nodes_faulty, nodes-all}

@@ -1,6 +1,5 @@
 -- `printing::line_length` meets its contract. The loop's invariant: the bytes counted and those of the fields left are all bytes of the line.
 -- Assumes nothing.
-use Prim.Native.Nat.{◌-◌}
 use Rattle.std.proofs.Common.{rules}
 use Rattle.text.proofs.LineReplyLaws.{measuring_none, measuring_more, measuring_all}
 use Rattle.text.proofs.printing.line_length.Goals as goal

@@ -1,6 +1,5 @@
 -- `printing::put_fields` meets its contract. The loop's invariant: the fields before this one stand, and those left make the line's fields whole.
 -- Assumes nothing.
-use Prim.Native.Nat.{◌-◌}
 use Rattle.std.proofs.Common.{rules}
 use Rattle.text.proofs.LineReplyLaws.{filling_none, filling_room, filling_more, filling_all, filling_end}
 use Rattle.text.proofs.printing.put_fields.Goals as goal

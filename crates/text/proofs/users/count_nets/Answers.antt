@@ -1,7 +1,6 @@
 -- `text::users::count_nets` meets its contract. The loop's invariant: the trees of the nets passed are counted.
 -- Assumes nothing.
 use mathlib.Core.Path.{◌∙◌, sym}
-use Prim.Native.Nat.{◌-◌}
 use native.Mathlib.Omega.{arith}
 use lib.ListN.{get_or}
 use Rattle.std.proofs.Common.{rules}

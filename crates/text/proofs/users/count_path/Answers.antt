@@ -1,6 +1,6 @@
 -- `text::users::count_path` meets its contract: after the turns up to k, the nodes at places below k are stamped, and those that were not have one user more.
 -- Assumes nothing.
-use Prim.Native.Nat.{◌-◌, ◌<◌}
+use Prim.Native.Nat.{◌<◌}
 use native.Mathlib.Omega.{arith}
 use lib.ListN.{length, get_or}
 use lib.Seq.{slice_empty}
