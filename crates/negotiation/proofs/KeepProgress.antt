@@ -291,6 +291,16 @@ module _ (j : Job) (sound : Routable j) {p : Progress} {i : ℕ} {made : List Re
 abbrev pub over_used : Job → List ℕ → ℕ
 over_used j users = count_below (λ (v : ℕ). ltb (get_or j.block.capacities v 0) (get_or users v 0)) (nodes j)
 
+pub capacities_long : (j : Job) → Routable j → length j.block.capacities ≡ nodes j
+capacities_long j sound = capacities-long _ _ sound.block-sound.capacities_sound_lem
+
+-- it counts up to the length of their table
+pub over_counted :
+    (j : Job) → Routable j → (users : List ℕ) {over : ℕ}
+    → over ≡ count_below (λ (v : ℕ). ltb (get_or j.block.capacities v 0) (get_or users v 0)) (length j.block.capacities) → over ≡ over_used j users
+over_counted j sound users e =
+    e ∙ ap (λ (k : ℕ). count_below (λ (v : ℕ). ltb (get_or j.block.capacities v 0) (get_or users v 0)) k) (capacities_long j sound)
+
 module _ (j : Job) {p : Progress} {history users marks from to : List ℕ} (kept : Kept j p history users marks from to) where
   -- the nodes over capacity
   pub over-is : over_used j users ≡ over_count j p.state.trees

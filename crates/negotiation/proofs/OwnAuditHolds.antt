@@ -20,7 +20,7 @@ use Rattle.negotiation.specs.Routable.{Routable}
 use Rattle.negotiation.specs.Records.{Record, encode, fitting}
 use Rattle.negotiation.specs.Machine.{State, iterate, first_state, state_after, settles_at}
 use Rattle.negotiation.specs.Outcome.{RouteReply, unreachable_net, iterations_made, first_progress, made_from, all_records, negotiated, tested_by, route_reply}
-use Rattle.negotiation.specs.Resume.{Replay, ends, replay_by}
+use Rattle.negotiation.specs.Resume.{Replay, replay_by}
 use Rattle.negotiation.specs.Resumed.{taken_up}
 use Rattle.negotiation.specs.Runs.{start}
 use Rattle.negotiation.specs.Audit.{AuditReply, refused_audit, audited_reply, audit_reply}

@@ -3,7 +3,6 @@
 --     KeepNet           after a net
 --     KeepEnd           after an iteration
 --     KeepCount         how many nodes are counted, at each loop's head
---     KeepLengths       the lists keep their lengths
 --     BackLentLaws      the edges by their target as a run that aims has them
 --     StartLaws         a run's start: begun, after a lent log, or turned away
 -- Assumes nothing.
@@ -11,6 +10,5 @@ pub mod OneTurnLaws
 pub mod KeepNet
 pub mod KeepEnd
 pub mod KeepCount
-pub mod KeepLengths
 pub mod BackLentLaws
 pub mod StartLaws

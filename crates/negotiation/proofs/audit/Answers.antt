@@ -1,12 +1,10 @@
 -- `negotiation::audit` meets its contract: refusals 5, 15 and 6 by their tests, the rest by the answer of the joined nets.
 -- Assumes nothing.
-use mathlib.Core.List.{[], ◌∷◌}
 use mathlib.Core.Path.{◌≡◌, refl, sym, subst}
 use Prim.Native.Nat.{◌+◌}
 use native.Mathlib.Omega.{arith}
 use lib.ListN.{length, take}
 use lib.Seq.{length-take-le}
-use types.Run.{miss}
 use Rattle.job.specs.Job.{Job, job_of}
 use Rattle.job.specs.Join.{joined}
 use Rattle.negotiation.specs.Routable.{Routable}
@@ -17,12 +15,6 @@ use Rattle.negotiation.proofs.RouteLaws.{given_joinable, given_critical, given_r
 use Rattle.negotiation.proofs.audit.Goals.{After-joined_tables-count, In-Accepted, Start}
 use Rattle.negotiation.proofs.audit.Goals as goal
 
-abbrev entry : In-Accepted → Start
-entry c = c.before.before.before.before.before.before.before.before.before.before.before.before.before.before
-
-abbrev entry_2 : After-joined_tables-count → Start
-entry_2 c = c.before.before.before.before.before.before.before.before.before.before.before.before.before.before.before.before.before.before
-
 -- the job that is lent
 abbrev job : Start → Job
 job e =
@@ -32,13 +24,20 @@ job e =
 -- they pass
 module _ (c : In-Accepted) where
   abbrev listed : Job
-  listed = job (entry c)
+  listed =
+      job_of c.args.kind.now c.args.capacity.now c.args.first_edge.now c.args.edge_target.now c.args.source.now
+      c.args.first_sink.now c.args.sink.now c.args.delay.now c.args.criticality.now c.args.terms
 
   passes : TestsPass listed (length c.args.work.now)
   passes = accepted_passes listed _ _ c.refusal_of-refusal.ensures c.in-Accepted.is
 
 -- the nets are joined
 module _ (c : After-joined_tables-count) where
+  abbrev given : Job
+  given =
+      job_of c.args.kind.now c.args.capacity.now c.args.first_edge.now c.args.edge_target.now c.args.source.now
+      c.args.first_sink.now c.args.sink.now c.args.delay.now c.args.criticality.now c.args.terms
+
   -- the job of the joined tables
   abbrev made : Job
   made =
@@ -46,16 +45,20 @@ module _ (c : After-joined_tables-count) where
       (take (length c.args.source.now + 1) c.joined_tables-count.new.firsts) (take c.joined_tables-count.result c.joined_tables-count.new.sinks)
       c.args.delay.now (take c.joined_tables-count.result c.joined_tables-count.new.criticalities) c.args.terms
 
-  made-is : made ≡ joined (job (entry_2 c))
+  made-is : made ≡ joined given
   made-is =
       joined-job c.args.terms c.joined_tables-count.ensures c.args.kind.now c.args.capacity.now c.args.first_edge.now
       c.args.edge_target.now c.args.delay.now
 
 pub joined_tables-count-requires : goal.joined_tables-count-requires
 joined_tables-count-requires c =
-    let tables = given_joinable (listed (goal.at.joined_tables-count-requires c).In-Accepted) (passes (goal.at.joined_tables-count-requires c).In-Accepted) in
-    let few = (given_routable (listed (goal.at.joined_tables-count-requires c).In-Accepted) (passes (goal.at.joined_tables-count-requires c).In-Accepted)).nets-few in
-    (tables, ((omega arith, tables.sinks-few), (given_critical (listed (goal.at.joined_tables-count-requires c).In-Accepted) (passes (goal.at.joined_tables-count-requires c).In-Accepted) _ refl, tables.sinks-few)))
+    let at = (goal.at.joined_tables-count-requires c).In-Accepted in
+    let tables = given_joinable (listed at) (passes at) in
+    let few = (given_routable (listed at) (passes at)).nets-few in record {
+      joinable = tables;
+      source_in_bounds = (omega arith, tables.sinks-few);
+      criticality_len = (given_critical (listed at) (passes at) _ refl, tables.sinks-few);
+    }
 
 pub slice_bounds-audit_joined-end : goal.slice_bounds-audit_joined-end
 slice_bounds-audit_joined-end c = sym (length-take-le _ _ c.joined_tables-count.ensures.ends-within)
@@ -68,18 +71,19 @@ slice_bounds-audit_joined-end-3 c = sym (length-take-le _ _ c.joined_tables-coun
 
 pub audit_joined-requires : goal.audit_joined-requires
 audit_joined-requires c =
-    (subst Routable (sym (made-is (goal.at.audit_joined-requires c).After-joined_tables-count)) (given_routable (job (goal.at.audit_joined-requires c).Start) (passes (goal.at.audit_joined-requires c).In-Accepted)), (passes (goal.at.audit_joined-requires c).In-Accepted).enough)
+    let at = goal.at.audit_joined-requires c in
+    (subst Routable (sym (made-is at.After-joined_tables-count)) (given_routable (listed at.In-Accepted) (passes at.In-Accepted)), (passes at.In-Accepted).enough)
 
 pub returns-in_default : goal.returns-in_default
-returns-in_default c = record {
-  audited = audit_answered (job (goal.at.returns-in_default c).Start) c.args.used c.args.work.now c.args.log.now (audit_reply_of c.refused.result c.args.work.now)
-      (audit_refused (job (goal.at.returns-in_default c).Start) c.args.used c.args.work.now c.args.log.now _ c.refusal_of-refusal.ensures
-      (λ q. miss (1 ∷ 2 ∷ 3 ∷ 4 ∷ 5 ∷ 6 ∷ 7 ∷ 8 ∷ []) 0 tt (rw q (goal.at.returns-in_default c).After-refusal_of-refusal c.in-Accepted.keys2)) c.refused.result c.refused.ensures);
-}
+returns-in_default c =
+    let lent = job (goal.at.returns-in_default c).Start in record {
+      audited = audit_answered lent c.args.used c.args.work.now c.args.log.now (audit_reply_of c.refused.result c.args.work.now)
+          (audit_refused lent c.args.used c.args.work.now c.args.log.now _ c.refusal_of-refusal.ensures c.in_default.not-Accepted c.refused.result c.refused.ensures);
+    }
 
 pub returns : goal.returns
-returns c = record {
-  audited = audit_answered (job (goal.at.returns c).Start) c.args.used c.args.work.now c.args.log.now (audit_reply_of c.audit_joined.result c.audit_joined.new.work)
-      (joined_audited (job (goal.at.returns c).Start) c.args.used c.args.work.now c.args.log.now _ c.refusal_of-refusal.ensures c.in-Accepted.is (made (goal.at.returns c).After-joined_tables-count)
-      (made-is (goal.at.returns c).After-joined_tables-count) _ c.audit_joined.ensures);
-}
+returns c =
+    let at = (goal.at.returns c).After-joined_tables-count in record {
+      audited = audit_answered (given at) c.args.used c.args.work.now c.args.log.now (audit_reply_of c.audit_joined.result c.audit_joined.new.work)
+          (joined_audited (given at) c.args.used c.args.work.now c.args.log.now _ c.refusal_of-refusal.ensures c.in-Accepted.is (made at) (made-is at) _ c.audit_joined.ensures);
+    }

@@ -8,19 +8,16 @@ use Rattle.job.specs.Job.{Job, job_of}
 use Rattle.negotiation.specs.Steps.{missing, reach_numbers}
 use Rattle.negotiation.proofs.RefusalLaws.{refused-counts}
 use Rattle.negotiation.proofs.RouteLaws.{unreachable_refused, none-missing, run_answered}
-use Rattle.negotiation.proofs.route_joined.Goals.{After-unreachable, Start}
+use Rattle.negotiation.proofs.route_joined.Goals.{After-unreachable}
 use Rattle.negotiation.proofs.route_joined.Goals as goal
 
-abbrev entry : After-unreachable → Start
-entry c = c.before.before.before.before.before.before.before.before.before.before.before.before.before
-
 -- the job that is lent
-abbrev job : Start → Job
-job e =
-    job_of e.args.kind.now e.args.capacity.now e.args.first_edge.now e.args.edge_target.now
-    e.args.source.now e.args.first_sink.now e.args.sink.now e.args.delay.now e.args.criticality.now e.args.terms
+abbrev job : After-unreachable → Job
+job u =
+    job_of u.args.kind.now u.args.capacity.now u.args.first_edge.now u.args.edge_target.now
+    u.args.source.now u.args.first_sink.now u.args.sink.now u.args.delay.now u.args.criticality.now u.args.terms
 
-test : (u : After-unreachable) → reach_numbers u.unreachable.result ≡ missing (job (entry u))
+test : (u : After-unreachable) → reach_numbers u.unreachable.result ≡ missing (job u)
 test u =
     u.unreachable.ensures.first_missing u.args.capacity.now u.args.delay.now u.args.criticality.now u.args.terms u.requires.0
 
@@ -42,23 +39,22 @@ overflow_mul-kind c =
     omega arith
 
 pub negotiate-requires : goal.negotiate-requires
-negotiate-requires c = (
-  c.requires.0,
-  none-missing (job (goal.at.negotiate-requires c).Start) _ (test (goal.at.negotiate-requires c).After-unreachable) c.in-All.is,
-  le_trans c.requires.1 (le_of_eq (sym c.unreachable.ensures.same_from.long)),
-)
+negotiate-requires c =
+    let at = (goal.at.negotiate-requires c).After-unreachable in
+    (c.requires.0, none-missing (job at) _ (test at) c.in-All.is, le_trans c.requires.1 (le_of_eq (sym c.unreachable.ensures.same_from.long)))
 
 pub returns-in-Missing : goal.returns-in-Missing
-returns-in-Missing c = record {
-  answers = unreachable_refused c.args.start (job (goal.at.returns-in-Missing c).Start) _ _ _ (test (goal.at.returns-in-Missing c).After-unreachable) _ c.unreachable.ensures.same_from
-      _ _ _ _ c.in-Missing.is c.refused.ensures c.clear.ensures;
-  expanded = refused-counts c.args.aimed (job (goal.at.returns-in-Missing c).Start) _ c.refused.result c.args.log.now c.refused.ensures;
-}
+returns-in-Missing c =
+    let at = (goal.at.returns-in-Missing c).After-unreachable in record {
+      answers = unreachable_refused c.args.start (job at) _ _ _ (test at) _ c.unreachable.ensures.same_from
+          _ _ _ _ c.in-Missing.is c.refused.ensures c.clear.ensures;
+      expanded = refused-counts c.args.aimed (job at) _ c.refused.result c.args.log.now c.refused.ensures;
+    }
 
 pub returns-in-All : goal.returns-in-All
-returns-in-All c = record {
-  answers = run_answered c.args.start (job (goal.at.returns-in-All c).Start) _ _ _ (test (goal.at.returns-in-All c).After-unreachable) _ c.unreachable.ensures.same_from
-      c.negotiate.result c.negotiate.new.work c.negotiate.new.log
-      c.in-All.is c.negotiate.ensures.answers;
-  expanded = c.negotiate.ensures.expanded;
-}
+returns-in-All c =
+    let at = (goal.at.returns-in-All c).After-unreachable in record {
+      answers = run_answered c.args.start (job at) _ _ _ (test at) _ c.unreachable.ensures.same_from
+          c.negotiate.result c.negotiate.new.work c.negotiate.new.log c.in-All.is c.negotiate.ensures.answers;
+      expanded = c.negotiate.ensures.expanded;
+    }

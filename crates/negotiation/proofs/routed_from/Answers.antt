@@ -1,12 +1,10 @@
 -- `negotiation::routed_from` meets its contract: refusals 5, 15 and 6 by their tests, the rest by the answer of the joined nets.
 -- Assumes nothing.
-use mathlib.Core.List.{[], ◌∷◌}
 use mathlib.Core.Path.{◌≡◌, refl, sym, subst}
 use Prim.Native.Nat.{◌+◌}
 use native.Mathlib.Omega.{arith}
 use lib.ListN.{length, take}
 use lib.Seq.{length-take-le}
-use types.Run.{miss}
 use Rattle.job.specs.Job.{Job, job_of}
 use Rattle.job.specs.Join.{joined}
 use Rattle.negotiation.specs.Routable.{Routable}
@@ -15,12 +13,6 @@ use Rattle.negotiation.proofs.RefusalLaws.{TestsPass, accepted_passes, refused-c
 use Rattle.negotiation.proofs.RouteLaws.{given_joinable, given_critical, given_routable, job-refused, joined-answered, joined-counts}
 use Rattle.negotiation.proofs.routed_from.Goals.{After-joined_tables-count, In-Accepted, Start}
 use Rattle.negotiation.proofs.routed_from.Goals as goal
-
-abbrev entry : In-Accepted → Start
-entry c = c.before.before.before.before.before.before.before.before.before.before.before.before.before.before
-
-abbrev entry_2 : After-joined_tables-count → Start
-entry_2 c = c.before.before.before.before.before.before.before.before.before.before.before.before.before.before.before.before.before.before
 
 -- the job that is lent
 abbrev job : Start → Job
@@ -31,13 +23,20 @@ job e =
 -- they pass
 module _ (c : In-Accepted) where
   abbrev listed : Job
-  listed = job (entry c)
+  listed =
+      job_of c.args.kind.now c.args.capacity.now c.args.first_edge.now c.args.edge_target.now c.args.source.now
+      c.args.first_sink.now c.args.sink.now c.args.delay.now c.args.criticality.now c.args.terms
 
   passes : TestsPass listed (length c.args.work.now)
   passes = accepted_passes listed _ _ c.refusal_of-refusal.ensures c.in-Accepted.is
 
 -- the nets are joined
 module _ (c : After-joined_tables-count) where
+  abbrev given : Job
+  given =
+      job_of c.args.kind.now c.args.capacity.now c.args.first_edge.now c.args.edge_target.now c.args.source.now
+      c.args.first_sink.now c.args.sink.now c.args.delay.now c.args.criticality.now c.args.terms
+
   -- the job of the joined tables
   abbrev made : Job
   made =
@@ -45,16 +44,20 @@ module _ (c : After-joined_tables-count) where
       (take (length c.args.source.now + 1) c.joined_tables-count.new.firsts) (take c.joined_tables-count.result c.joined_tables-count.new.sinks)
       c.args.delay.now (take c.joined_tables-count.result c.joined_tables-count.new.criticalities) c.args.terms
 
-  made-is : made ≡ joined (job (entry_2 c))
+  made-is : made ≡ joined given
   made-is =
       joined-job c.args.terms c.joined_tables-count.ensures c.args.kind.now c.args.capacity.now c.args.first_edge.now
       c.args.edge_target.now c.args.delay.now
 
 pub joined_tables-count-requires : goal.joined_tables-count-requires
 joined_tables-count-requires c =
-    let tables = given_joinable (listed (goal.at.joined_tables-count-requires c).In-Accepted) (passes (goal.at.joined_tables-count-requires c).In-Accepted) in
-    let few = (given_routable (listed (goal.at.joined_tables-count-requires c).In-Accepted) (passes (goal.at.joined_tables-count-requires c).In-Accepted)).nets-few in
-    (tables, ((omega arith, tables.sinks-few), (given_critical (listed (goal.at.joined_tables-count-requires c).In-Accepted) (passes (goal.at.joined_tables-count-requires c).In-Accepted) _ refl, tables.sinks-few)))
+    let at = (goal.at.joined_tables-count-requires c).In-Accepted in
+    let tables = given_joinable (listed at) (passes at) in
+    let few = (given_routable (listed at) (passes at)).nets-few in record {
+      joinable = tables;
+      source_in_bounds = (omega arith, tables.sinks-few);
+      criticality_len = (given_critical (listed at) (passes at) _ refl, tables.sinks-few);
+    }
 
 pub slice_bounds-route_joined-end : goal.slice_bounds-route_joined-end
 slice_bounds-route_joined-end c = sym (length-take-le _ _ c.joined_tables-count.ensures.ends-within)
@@ -67,10 +70,19 @@ slice_bounds-route_joined-end-3 c = sym (length-take-le _ _ c.joined_tables-coun
 
 pub route_joined-requires : goal.route_joined-requires
 route_joined-requires c =
-    (subst Routable (sym (made-is (goal.at.route_joined-requires c).After-joined_tables-count)) (given_routable (job (goal.at.route_joined-requires c).Start) (passes (goal.at.route_joined-requires c).In-Accepted)), (passes (goal.at.route_joined-requires c).In-Accepted).enough)
+    let at = goal.at.route_joined-requires c in
+    (subst Routable (sym (made-is at.After-joined_tables-count)) (given_routable (listed at.In-Accepted) (passes at.In-Accepted)), (passes at.In-Accepted).enough)
 
 pub returns-in_default : goal.returns-in_default
-returns-in_default c = record { answers = job-refused c.args.start (job (goal.at.returns-in_default c).Start) _ _ _ c.refusal_of-refusal.ensures (λ q. miss (1 ∷ 2 ∷ 3 ∷ 4 ∷ 5 ∷ 6 ∷ 7 ∷ 8 ∷ []) 0 tt (rw q (goal.at.returns-in_default c).After-refusal_of-refusal c.in-Accepted.keys2)) _ c.refused.ensures; expanded = refused-counts c.args.aimed (joined (job (goal.at.returns-in_default c).Start)) _ c.refused.result _ c.refused.ensures }
+returns-in_default c =
+    let lent = job (goal.at.returns-in_default c).Start in record {
+      answers = job-refused c.args.start lent _ _ _ c.refusal_of-refusal.ensures c.in_default.not-Accepted _ c.refused.ensures;
+      expanded = refused-counts c.args.aimed (joined lent) _ c.refused.result _ c.refused.ensures;
+    }
 
 pub returns : goal.returns
-returns c = record { answers = joined-answered c.args.start (job (goal.at.returns c).Start) _ _ _ c.refusal_of-refusal.ensures c.in-Accepted.is (made (goal.at.returns c).After-joined_tables-count) (made-is (goal.at.returns c).After-joined_tables-count) _ c.route_joined.ensures.answers; expanded = joined-counts (made (goal.at.returns c).After-joined_tables-count) (made-is (goal.at.returns c).After-joined_tables-count) _ _ _ _ c.route_joined.ensures.expanded }
+returns c =
+    let at = (goal.at.returns c).After-joined_tables-count in record {
+      answers = joined-answered c.args.start (given at) _ _ _ c.refusal_of-refusal.ensures c.in-Accepted.is (made at) (made-is at) _ c.route_joined.ensures.answers;
+      expanded = joined-counts (made at) (made-is at) _ _ _ _ c.route_joined.ensures.expanded;
+    }

@@ -17,7 +17,6 @@ use Rattle.price.specs.Lists.{has, total}
 use Rattle.price.proofs.TestLaws.{by_test, true≢false, both_left, both_right, both_false_right, either_true}
 use Rattle.price.proofs.ListLaws.{neighbours_at}
 use Rattle.search.specs.Block.{has_edge}
-use Rattle.search.specs.Block as block
 use Rattle.search.specs.Tables.{Graph}
 use Rattle.search.specs.Paths.{path_cost}
 use Rattle.search.proofs.BlockLaws.{edge_to}

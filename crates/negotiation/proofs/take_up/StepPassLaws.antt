@@ -23,7 +23,6 @@ use Rattle.search.specs.Block as block
 use Rattle.search.specs.Tables.{Graph}
 use Rattle.search.proofs.BlockLaws.{edge_to}
 use Rattle.search.proofs.DistinctLaws.{has_first, has_rest, has_cons, lacks, distinct_cons, distinct_first, distinct_rest}
-use Rattle.job.specs.Job.{nodes}
 use Rattle.negotiation.specs.ResumeSteps.{last_mark, step_passes, steps_cost}
 use Rattle.negotiation.proofs.MemberLaws.{no_entry}
 

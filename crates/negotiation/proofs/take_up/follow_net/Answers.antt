@@ -1,17 +1,16 @@
 -- `negotiation::take_up::follow_net` meets its contract: from any net that opens so, the turns made so far follow and so many more may be made, and the place is
 -- that of the first sink that the tree lacks (`TakeTurnLaws`). What is safe rests on the one that is asked for. A net without turns leaves all as it is.
 -- Assumes nothing.
-use mathlib.Core.List.{List, [], ◌∷◌}
+use mathlib.Core.List.{List}
 use mathlib.Core.Path.{◌≡◌, refl, ◌∙◌, ap}
-use Prim.Native.Nat.{ℕ, ◌-◌, ◌*◌, ◌≤◌, ◌<◌, ◌^◌, zero-le}
+use Prim.Native.Nat.{ℕ, ◌*◌, ◌≤◌, ◌<◌, ◌^◌, zero-le}
 use native.Mathlib.Nat.{add-zero}
 use native.Mathlib.Omega.{arith}
 use lib.ListN.{length, get_or}
-use types.Run.{miss}
 use Rattle.negotiation.specs.Steps.{SameFrom}
 use Rattle.negotiation.specs.TakeSteps.{SomeNet}
 use Rattle.negotiation.specs.declared.tariff.Tariff.{Tariff}
-use Rattle.negotiation.proofs.take_up.TakeTurnLaws.{some_of, missing-more, follow_start, part-order, part-within, part_small, part-below, follow_ready, follow_some, follow_out, follow_stopped, follow_more, follow_room, follow_on}
+use Rattle.negotiation.proofs.take_up.TakeTurnLaws.{some_of, missing-more, follow_start, part-order, part-within, part-below, follow_ready, follow_some, follow_out, follow_stopped, follow_more, follow_room, follow_on}
 use Rattle.negotiation.proofs.KeepTurn.{same_twice}
 use Rattle.negotiation.proofs.take_up.follow_net.Goals.{After-follow_tried-tried, Else-turns-eq0}
 use Rattle.negotiation.proofs.take_up.follow_net.Goals as goal
@@ -121,7 +120,11 @@ pub slice_bounds-missing_sink-end-in-loop-place : goal.slice_bounds-missing_sink
 slice_bounds-missing_sink-end-in-loop-place c = part-within _ (asked (goal.at.slice_bounds-missing_sink-end-in-loop-place c).Else-turns-eq0).opens
 
 pub missing_sink-place-requires-in-loop-place : goal.missing_sink-place-requires-in-loop-place
-missing_sink-place-requires-in-loop-place c = record { all_below = part-below _ (asked (goal.at.missing_sink-place-requires-in-loop-place c).Else-turns-eq0).opens _ (marks_long (goal.at.missing_sink-place-requires-in-loop-place c).After-follow_tried-tried); from_in_bounds = c.loop-place.invariant.1.within }
+missing_sink-place-requires-in-loop-place c =
+    let at = goal.at.missing_sink-place-requires-in-loop-place c in record {
+      all_below = part-below _ (asked at.Else-turns-eq0).opens _ (marks_long at.After-follow_tried-tried);
+      from_in_bounds = c.loop-place.invariant.1.within;
+    }
 
 pub loop-place-smaller : goal.loop-place-smaller
 loop-place-smaller c = let some = some_of _ c.if-left-eq0.false in omega arith

@@ -1,21 +1,17 @@
 -- `negotiation::take_up::follow_nets` meets its contract: under any such terms and from any progress at which an iteration opens so, the nets passed follow
 -- (`TakeNetLaws`). What is safe rests on the one that is asked for. The measure: nets left.
 -- Assumes nothing.
-use mathlib.Core.Bool.{false}
-use mathlib.Core.List.{[], ◌∷◌}
-use mathlib.Core.Path.{◌≡◌, refl, sym, ◌∙◌}
-use Prim.Native.Nat.{ℕ, ◌-◌, ◌+◌, ◌*◌}
+use mathlib.Core.Path.{◌≡◌, refl}
+use Prim.Native.Nat.{ℕ, ◌+◌, ◌*◌}
 use native.Mathlib.Omega.{arith}
 use lib.ListN.{length, get_or}
-use types.Run.{miss}
 use Rattle.job.specs.Job.{Job, job_of}
 use Rattle.negotiation.specs.Routable.{Routable}
-use Rattle.negotiation.specs.Machine.{Progress}
 use Rattle.negotiation.specs.Steps.{SameFrom}
 use Rattle.negotiation.specs.TakeSteps.{NetTables, NetsOpen, NetsOn}
 use Rattle.job.specs.declared.Terms.{Terms}
 use Rattle.negotiation.proofs.KeepTurn.{same_twice}
-use Rattle.negotiation.proofs.take_up.TakeNetLaws.{net_tables, nets-start, nets-long, net-ready, net_asks, nets-stopped, end-ready, net-next, nets-all}
+use Rattle.negotiation.proofs.take_up.TakeNetLaws.{net_tables, nets-start, net-ready, net_asks, nets-stopped, end-ready, net-next, nets-all}
 use Rattle.negotiation.proofs.take_up.follow_nets.Goals.{After-follow_net-taken, At-loop-net}
 use Rattle.negotiation.proofs.take_up.follow_nets.Goals as goal
 

@@ -3,7 +3,6 @@
 -- Assumes nothing.
 use lib.Seq.{length-take-le}
 use mathlib.Core.Path.{refl, sym}
-use native.Mathlib.Omega.{arith}
 use Rattle.negotiation.proofs.take_up.JudgedLaws.{no_end, judged_some, said_ended}
 use Rattle.negotiation.proofs.take_up.TriedLaws.{goals-enough, goals-asked, goals_fit, least_asks, least_said, tried-tested, judge_asks, tried_said}
 use Rattle.negotiation.proofs.take_up.follow_tried.Goals as goal

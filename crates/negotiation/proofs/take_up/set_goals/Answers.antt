@@ -1,6 +1,5 @@
 -- `negotiation::take_up::set_goals` meets its contract. The loop's invariant: the entries at the sinks passed are 1, the others are as before.
 -- Assumes nothing.
-use Prim.Native.Nat.{◌-◌}
 use native.Mathlib.Omega.{arith}
 use Rattle.job.proofs.MarkLaws.{stored_none}
 use Rattle.job.proofs.SinkMarkLaws.{stored_more, stored_all}

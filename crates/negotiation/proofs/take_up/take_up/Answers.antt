@@ -1,35 +1,19 @@
 -- `negotiation::take_up::take_up` meets its contract: at the loop's head the iterations passed follow and lead to a progress from which a run can go on, in the log
 -- or behind it (`TakeLogLaws`). The measure: iterations up to the limit.
 -- Assumes nothing.
-use mathlib.Core.List.{List}
-use mathlib.Core.Path.{◌≡◌, refl, sym, ◌∙◌, ap}
-use Prim.Native.Nat.{ℕ}
+use mathlib.Core.Path.{refl, sym, ◌∙◌, ap}
 use native.Mathlib.Nat.{le_of_eq, le_trans}
 use native.Mathlib.Omega.{arith}
-use lib.Dec.{ltb}
-use lib.ListN.{length, get_or}
-use Rattle.price.specs.Lists.{count_below}
-use Rattle.search.proofs.BlockLaws.{kinds-few, capacities-long}
-use Rattle.job.specs.Job.{Job, nodes}
-use Rattle.negotiation.specs.Routable.{Routable}
+use Rattle.search.proofs.BlockLaws.{kinds-few}
 use Rattle.negotiation.specs.TariffSteps.{started_tariff}
 use Rattle.negotiation.specs.declared.tariff.Tariff.{Tariff}
 use Rattle.negotiation.proofs.RoutableLaws.{tuning-fits}
-use Rattle.negotiation.proofs.KeepProgress.{over_used}
+use Rattle.negotiation.proofs.KeepProgress.{capacities_long, over_counted}
 use Rattle.negotiation.proofs.take_up.TakeNetLaws.{nets-long}
 use Rattle.negotiation.proofs.take_up.TakeLogLaws.{take-start, taking-long, take_on, nets-on, due_asks, growable, nets_open, take-stopped, same-iteration, take_whole, low, take_next}
 use Rattle.negotiation.proofs.take_up.JudgedLaws.{whole_said_so}
 use Rattle.negotiation.proofs.KeepTurn.{same_twice}
 use Rattle.negotiation.proofs.take_up.take_up.Goals as goal
-
-capacities_long : (j : Job) → Routable j → length j.block.capacities ≡ nodes j
-capacities_long j sound = capacities-long _ _ sound.block-sound.capacities_sound_lem
-
-over_counted :
-    (j : Job) → Routable j → (users : List ℕ) {n : ℕ}
-    → n ≡ count_below (λ (v : ℕ). ltb (get_or j.block.capacities v 0) (get_or users v 0)) (length j.block.capacities) → n ≡ over_used j users
-over_counted j sound users e =
-    e ∙ ap (λ (k : ℕ). count_below (λ (v : ℕ). ltb (get_or j.block.capacities v 0) (get_or users v 0)) k) (capacities_long j sound)
 
 pub loop-more-init : goal.loop-more-init
 loop-more-init c = (take-start _ _ c.requires.2, record { long = refl; high = λ k l. refl })

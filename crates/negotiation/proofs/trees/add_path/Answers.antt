@@ -31,7 +31,10 @@ loop-k-preserved c =
     let inv = c.loop-k.invariant in (
       between_more c.loop-k-test.true inv.0,
       rw (passed_more c.loop-k-test.true inv.0)
-          ((elim c.if-in_tree-v-eq1.branch [ then-in_tree-v-eq1 w ↦ rw w.users-is (added_append inv.1 (added_one _ _ _ _ (node (goal.at.loop-k-preserved c).In-loop-k) (node-user (goal.at.loop-k-preserved c).In-loop-k) w.if-in_tree-v-eq1.true)) | else-in_tree-v-eq1 w ↦ rw w.users-is (added_append inv.1 (added_kept _ _ _ _ (node (goal.at.loop-k-preserved c).In-loop-k) w.if-in_tree-v-eq1.false)) ])),
+          ((elim c.if-in_tree-v-eq1.branch [
+            | then-in_tree-v-eq1 w ↦ rw w.users-is (added_append inv.1 (added_one _ _ _ _ (node (goal.at.loop-k-preserved c).In-loop-k) (node-user (goal.at.loop-k-preserved c).In-loop-k) w.if-in_tree-v-eq1.true))
+            | else-in_tree-v-eq1 w ↦ rw w.users-is (added_append inv.1 (added_kept _ _ _ _ (node (goal.at.loop-k-preserved c).In-loop-k) w.if-in_tree-v-eq1.false))
+          ])),
     )
 
 pub returns : goal.returns

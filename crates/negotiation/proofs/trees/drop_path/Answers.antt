@@ -42,7 +42,10 @@ loop-k-preserved c =
     let inv = c.loop-k.invariant in (
       between_more c.loop-k-test.true inv.0,
       rw (passed_more c.loop-k-test.true inv.0)
-          ((elim c.if-in_tree-v-eq0.branch [ then-in_tree-v-eq0 w ↦ rw w.users-is (dropped_append inv.1 (dropped_one _ _ _ _ (node (goal.at.loop-k-preserved c).In-loop-k) (node-user (goal.at.loop-k-preserved c).In-loop-k) w.if-in_tree-v-eq0.true)) | else-in_tree-v-eq0 w ↦ rw w.users-is (dropped_append inv.1 (dropped_kept _ _ _ _ (node (goal.at.loop-k-preserved c).In-loop-k) w.if-in_tree-v-eq0.false)) ])),
+          ((elim c.if-in_tree-v-eq0.branch [
+            | then-in_tree-v-eq0 w ↦ rw w.users-is (dropped_append inv.1 (dropped_one _ _ _ _ (node (goal.at.loop-k-preserved c).In-loop-k) (node-user (goal.at.loop-k-preserved c).In-loop-k) w.if-in_tree-v-eq0.true))
+            | else-in_tree-v-eq0 w ↦ rw w.users-is (dropped_append inv.1 (dropped_kept _ _ _ _ (node (goal.at.loop-k-preserved c).In-loop-k) w.if-in_tree-v-eq0.false))
+          ])),
     )
 
 pub returns : goal.returns

@@ -1,7 +1,6 @@
 -- `negotiation::turns::clear` meets its contract. The loop's invariant: entries below k hold 0, the others are as they were.
 -- Assumes nothing.
 use mathlib.Core.Path.{◌≡◌, refl, ◌∙◌}
-use Prim.Native.Nat.{◌-◌}
 use native.Mathlib.Omega.{arith}
 use lib.ListN.{length-set}
 use borrow.Author.Fill.{fill_more}
