@@ -2,9 +2,9 @@
 -- much longer it is makes no difference.
 -- Assumes nothing.
 use mathlib.Core.Bool.{true, false}
-use mathlib.Core.List.{List, [], ◌∷◌, ◌++◌}
+use mathlib.Core.List.{List, [], ◌∷◌}
 use mathlib.Core.Path.{◌≡◌, refl, sym, ◌∙◌, ap}
-use Prim.Native.Nat.{ℕ, ◌+◌, ◌≤◌}
+use Prim.Native.Nat.{ℕ, ◌≤◌}
 use native.Mathlib.Nat.{zero-add}
 use lib.ListN.{length, take, drop}
 use lib.Seq.{take_at}
@@ -21,7 +21,7 @@ use Rattle.text.specs.ReadReplies.{short_table, written_over, tables_with, store
 use Rattle.text.specs.Routes.{log_sound, writable, WriteReply, text_reply, tested_reply}
 use Rattle.text.specs.Dot.{text_in, style_reply}
 use Rattle.text.specs.declared.Style.{Style}
-use Rattle.flow.specs.RunReplies.{Lent, lent_of, RunReply, run_reply_with, after_write, after_route, route_run, run_reply, input_most, Response, answered, response, printed}
+use Rattle.flow.specs.RunReplies.{Lent, lent_of, RunReply, run_reply_with, after_write, after_route, route_run, run_reply, input_most, answered, response, printed}
 use Rattle.flow.proofs.RunLaws.{responded}
 
 -- a line that fits stands at the buffer's start

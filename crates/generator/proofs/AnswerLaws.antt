@@ -1,6 +1,6 @@
 -- What is printed for an input, from what it asks for.
 -- Assumes nothing.
-use Rattle.std.proofs.Common.{◌≡◌, ℕ, ◌+◌, ◌≤◌, List, [], ◌∷◌, ◌++◌, length, drop, sym, ap, ◌∙◌, subst, arith, length-append}
+use Rattle.std.proofs.Common.{◌≡◌, ℕ, ◌≤◌, List, [], ◌∷◌, ◌++◌, length, drop, sym, ap, ◌∙◌, subst, arith, length-append}
 use Rattle.text.specs.Lines.{letter_x, print_line}
 use Rattle.text.specs.WriteSteps.{Put}
 use Rattle.text.specs.ReadReplies.{written_over}

@@ -1,6 +1,6 @@
 -- Every load is sound, the reader takes its text for it and gives its tables back, and the text fits the router's buffer.
 -- Assumes nothing.
-use Rattle.std.proofs.Common.{◌≡◌, ℕ, ◌+◌, ◌≤◌, false, length, refl, arith}
+use Rattle.std.proofs.Common.{◌≡◌, ℕ, ◌≤◌, false, length, refl, arith}
 use Rattle.price.proofs.ListLaws.{length_up_to}
 use Rattle.job.specs.Job.{nodes}
 use Rattle.job.specs.Tables.{exceeds}

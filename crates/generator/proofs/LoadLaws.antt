@@ -10,7 +10,6 @@ use Rattle.price.specs.Tuning.{tuning_sound}
 use Rattle.price.proofs.TestLaws.{by_test, true≢false, both_true, both_left, both_right}
 use Rattle.price.proofs.ListLaws.{every-all, neighbours-all, rises-last, get_or_up_to, length_up_to}
 use Rattle.search.specs.Block.{row, row_start}
-use Rattle.search.specs.Block as block
 use Rattle.search.specs.Tables.{edges_most, kinds_sound, capacities_sound, first_edges_sound, row_sound, edge_targets_sound}
 use Rattle.search.specs.Replies.{sinks_most}
 use Rattle.search.proofs.TableLaws.{edges-all}

@@ -1,7 +1,7 @@
 -- Theorems of request 2.11: the uses of a log, and those after a run of calls, sum to the size of the final trees; counts that pass 13 pass it
 -- after any log; the order of accepted logs makes no difference; and the counts of two runs add up to those of one run over both.
 -- Assumes nothing.
-use mathlib.Core.Bool.{true, false, not}
+use mathlib.Core.Bool.{true}
 use mathlib.Core.List.{List, [], ◌∷◌, ◌++◌}
 use mathlib.Core.Logic.{◌⊎◌, ⊎_elim, inl, inr}
 use mathlib.Core.Path.{◌≡◌, refl, sym, ◌∙◌, ap, ap₂, subst}

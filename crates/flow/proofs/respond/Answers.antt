@@ -3,10 +3,11 @@
 use Rattle.text.specs.ReadReplies.{tables_of}
 use Rattle.flow.specs.RunReplies.{lent_of}
 use Rattle.flow.proofs.RunLaws.{too_long, shown_out}
+use Rattle.std.proofs.Common.{rules}
 use Rattle.flow.proofs.respond.Goals as goal
 
 pub returns-then-input-gt-BYTES : goal.returns-then-input-gt-BYTES
-returns-then-input-gt-BYTES c = record { answers = too_long _ _ _ _ _ _ _ _ c.if-input-gt-BYTES.true c.write_refusal.ensures }
+returns-then-input-gt-BYTES c = record { answers = too_long _ _ _ _ _ _ _ _ (search rules) c.write_refusal.ensures }
 
 pub returns : goal.returns
 returns c =
@@ -18,6 +19,6 @@ returns c =
     a.delay.now a.criticality.now in
     let left = tables_of l.kind l.capacity l.first_edge l.edge_target l.source l.first_sink l.sink l.delay l.criticality in
     record {
-      answers = shown_out a.style a.input.now (lent_of tables a.work.now a.log.now a.routes.now) c.if-input-gt-BYTES.false run.result
+      answers = shown_out a.style a.input.now (lent_of tables a.work.now a.log.now a.routes.now) (search rules) run.result
           left l.work l.log l.routes put.result put.new.routes run.ensures.answers put.ensures;
     }

@@ -1,9 +1,8 @@
 -- `flow::run` meets its contract: the reader's answer says which parts of the tables are the job's, and the routing of these is the run's.
 -- Assumes nothing.
 use mathlib.Core.Path.{◌≡◌, ◌∙◌, sym, subst}
-use Prim.Native.Nat.{ℕ, ◌≤◌}
+use Prim.Native.Nat.{ℕ}
 use native.Mathlib.Omega.{arith}
-use lib.ListN.{length}
 use lib.Seq.{length-take-le}
 use Rattle.job.specs.declared.Terms.{Terms}
 use Rattle.text.specs.declared.ReadAnswer.{ReadAnswer}

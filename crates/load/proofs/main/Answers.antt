@@ -11,4 +11,4 @@ slice_bounds-text-end c = bytes_fit _ _ c.load_text-bytes.ensures.answers
 pub slice_bounds-write_all-end : goal.slice_bounds-write_all-end
 slice_bounds-write_all-end c =
     let r = c.load_text-bytes in
-    sym (length-take-le r.result r.new.1.0 (bytes_fit _ _ r.ensures))
+    sym (length-take-le r.result r.new.buffer (bytes_fit _ _ r.ensures.answers))

@@ -11,4 +11,4 @@ slice_bounds-routes-end c = shown_fits _ _ _ _ _ c.answer-bytes.ensures.answers
 pub slice_bounds-write_all-end : goal.slice_bounds-write_all-end
 slice_bounds-write_all-end c =
     let r = c.answer-bytes in
-    sym (length-take-le r.result r.new.1.1.0 (shown_fits _ _ _ _ _ r.ensures))
+    sym (length-take-le r.result r.new.routes (shown_fits _ _ _ _ _ r.ensures.answers))

@@ -1,7 +1,7 @@
 -- `ask::further_digits` meets its contract. The loop's invariant: the digits that are left go on from the number so far.
 -- Assumes nothing.
 use mathlib.Core.Bool.{not}
-use Rattle.std.proofs.Common.{◌≡◌, ◌-◌, ◌<◌, ◌≤◌, true, get_or, ap, arith, rules}
+use Rattle.std.proofs.Common.{◌≡◌, ◌≤◌, true, get_or, ap, arith, rules}
 use Rattle.search.proofs.KeptLaws.{refused, passed}
 use Rattle.text.specs.Decimal.{is_digit}
 use Rattle.text.proofs.FieldLaws.{digit_least, digit_most}

@@ -1,6 +1,6 @@
 -- `draws::steps` meets its contract. The loop's invariant: the state is the one after so many steps.
 -- Assumes nothing.
-use Rattle.std.proofs.Common.{◌≡◌, ◌-◌, ap, ◌∙◌, arith, rules}
+use Rattle.std.proofs.Common.{◌≡◌, ap, ◌∙◌, arith, rules}
 use Rattle.generator.specs.Draws.{state_after}
 use Rattle.generator.proofs.DrawLaws.{state-none, state-next}
 use Rattle.generator.proofs.draws.steps.Goals as goal

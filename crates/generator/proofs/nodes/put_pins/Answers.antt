@@ -1,6 +1,6 @@
 -- `nodes::put_pins` meets its contract. The loop's invariant: the lines of the nodes passed stand in the buffer.
 -- Assumes nothing.
-use Rattle.std.proofs.Common.{◌-◌, rules}
+use Rattle.std.proofs.Common.{rules}
 use Rattle.text.proofs.LineReplyLaws.{line-put}
 use Rattle.text.proofs.JoiningLaws.{joining_none, joining_room, joining_more, joining_all, joining_same}
 use Rattle.generator.proofs.nodes.put_pins.Goals as goal

@@ -1,6 +1,6 @@
 -- `nodes::put_wires` meets its contract. The loop's invariant: the lines of the nodes passed stand in the buffer.
 -- Assumes nothing.
-use Rattle.std.proofs.Common.{ℕ, ◌-◌, [], ◌∷◌, ap, rules}
+use Rattle.std.proofs.Common.{ℕ, [], ◌∷◌, ap, rules}
 use Rattle.generator.proofs.DrawLaws.{state-start, wire-drawn}
 use Rattle.text.proofs.JoiningLaws.{line-put_as, joining_none, joining_room, joining_more, joining_all, joining_same}
 use Rattle.generator.proofs.nodes.put_wires.Goals as goal

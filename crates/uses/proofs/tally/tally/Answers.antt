@@ -1,6 +1,6 @@
 -- `tally::tally` meets its contract: after the turns up to v, the weights of v nodes are added.
 -- Assumes nothing.
-use Prim.Native.Nat.{◌-◌, ◌<◌}
+use Prim.Native.Nat.{◌<◌}
 use native.Mathlib.Omega.{arith}
 use lib.ListN.{get_or}
 use Rattle.std.proofs.Common.{rules}

@@ -1,6 +1,5 @@
 -- `tally::widen` meets its contract: after the turns up to v, v entries are copied.
 -- Assumes nothing.
-use Prim.Native.Nat.{◌-◌}
 use native.Mathlib.Omega.{arith}
 use Rattle.std.proofs.Common.{rules}
 use Rattle.text.proofs.CopyLaws.{copied_none, copied_next}
