@@ -1,6 +1,7 @@
 -- The input's line, byte by byte: what each function of `ask` meets.
 -- Assumes nothing.
-use Rattle.std.proofs.Common.{◌≡◌, ℕ, zero, suc, ◌+◌, ◌-◌, ◌*◌, ◌^◌, ◌<◌, ◌≤◌, true, false, eqb, leb, List, ◌∷◌, length, get_or, drop, sym, refl, ap, ◌∙◌, subst, le_trans, mul-le-mul_right, mul_assoc, mul-le-mul, mul-le-mul_left, add-one, sub-one, arith, drop_of_length-le, drop-cons, drop-drop, eq-eqb, ne_eqb, le-leb}
+use Rattle.std.proofs.Common.{◌≡◌, ℕ, zero, suc, ◌+◌, ◌-◌, ◌*◌, ◌^◌, ◌<◌, ◌≤◌, true, false, eqb, leb, List, ◌∷◌, length, get_or, drop, sym, refl, ap, ◌∙◌, subst}
+use Rattle.std.proofs.Common.{le_trans, mul-le-mul_right, mul_assoc, mul-le-mul, mul-le-mul_left, add-one, sub-one, arith, drop_of_length-le, drop-cons, drop-drop, eq-eqb, ne_eqb, le-leb}
 use native.Mathlib.Nat.{pow-succ', pow-le-pow_right}
 use borrow.Author.Tests.{lt-leb}
 use Rattle.price.specs.Test.{either}

@@ -29,4 +29,10 @@ pub returns-then-high-value : goal.returns-then-high-value
 returns-then-high-value c = record { value = sym (whole_high _ _ _ _ (is_read (goal.at.returns-then-high-value c).In-Number) (search rules)); field_within = tt }
 
 pub returns : goal.returns
-returns c = record { value = sym (whole_is _ _ _ _ (is_read (goal.at.returns c).In-Number) (passed c.field_ends.ensures (ap not c.if-not-field_ends.false)) (search rules) (search rules)); field_within = (read_place c.args.input.now c.in-Number.is c.number.ensures.asked_field_place, search rules, search rules) }
+returns c = record {
+  value =
+      sym
+      (whole_is _ _ _ _ (is_read (goal.at.returns c).In-Number) (passed c.field_ends.ensures (ap not c.if-not-field_ends.false))
+      (search rules) (search rules));
+  field_within = (read_place c.args.input.now c.in-Number.is c.number.ensures.asked_field_place, search rules, search rules);
+}
