@@ -75,7 +75,7 @@ def main():
             continue
         read = rattle_items if path.endswith(".rt") else antt_items
         before, after = (read(git("show", f"{at}:{path}")) for at in (older, commit))
-        shown = "/".join(parts[3:-1]) if parts[-1] == "Proof.antt" else "/".join(parts[3:])
+        shown = "/".join(parts[3:-1]) if parts[-1] in ("Proof.antt", "Answers.antt", "Invariants.antt") else "/".join(parts[3:])
         told = kinds[parts[2]].setdefault(parts[1], {}).setdefault(shown, {})
         for name in list(before) + [n for n in after if n not in before]:
             if name not in before:

@@ -14,7 +14,7 @@ ROOT = pathlib.Path(__file__).resolve().parent.parent
 SOURCES = (".rt", ".antt", ".rs", ".c", ".h", ".py", ".sh", ".toml", ".edit", ".txt", ".in", ".1", "Makefile")
 FENCE = re.compile(r"^```.*?^```", re.M | re.S)
 # names of the toolchain, of the system and of packages
-ELSEWHERE = {"graphviz", "grind", "rattle-kit-13f", "port.py", "Lts.antt", "Lts", "Denote/Examples/Count.antt", "TMPDIR", "perf", "NULL", "clippy", "rustfmt"}
+ELSEWHERE = {"graphviz", "grind", "rattle-kit-13f", "port.py", "perf", "NULL", "clippy", "rustfmt"}
 NAME = re.compile(r"[A-Za-z_][\w·-]*['′]?")
 
 

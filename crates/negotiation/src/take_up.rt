@@ -379,7 +379,8 @@ fn whole_iteration(audit: bool, t: Tariff, over: u32, limit: u32, len: usize) ->
     if ends_here(audit, t.words, len) {
         return Taken::Ends(came_to(t, t.iteration, over));
     }
-    if over == 0 {
+    let settled = over == 0;
+    if settled {
         return Taken::Off(t.words);
     }
     if t.iteration == limit {

@@ -388,7 +388,8 @@ fn go_on(
             net += 1;
         }
         let over = congestion::over_count(capacity, users);
-        if over == 0 {
+        let settled = over == 0;
+        if settled {
             clear(work, 8 * n);
             return answer(Outcome::Accepted, tariff);
         }

@@ -88,7 +88,7 @@ fn aim(
     requires ready { let n = length kind.now in
         (u < n) × (v < n) × (8 * n ≤ length work.old) × Tournament n work.old × (length first_back.now ≡ n + 1)
         × (d ≤ reach_most) }
-    requires back_lent { let n = length kind.now in
+    requires reach_fits { let n = length kind.now in
         ((estimate_at n work.old v ≡ far → ⊥) → d + estimate_at n work.old v < 2 ^ 64) }
     ensures { let n = length kind.now in
         let before = work.old in

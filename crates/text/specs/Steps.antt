@@ -216,14 +216,14 @@ pub record NetKept (n nets : ℕ) (text : List ℕ) (c : NetCursor) (sources fir
 
 -- what an S line does to the tables
 abbrev pub SourceAdded :
-    (n nets : ℕ) (text : List ℕ) (c : NetCursor) → NetStep → (sources first_sinks seen sources' firstSinks' seen' : List ℕ)
+    (n nets : ℕ) (text : List ℕ) (c : NetCursor) → NetStep → (sources first_sinks seen sources' first_sinks' seen' : List ℕ)
     → Reading (List ℕ) → Type 0
-SourceAdded n nets text c (ns.On d) sources first_sinks seen sources' firstSinks' seen' r =
+SourceAdded n nets text c (ns.On d) sources first_sinks seen sources' first_sinks' seen' r =
     (node : ℕ) × (r ≡ values (c.nets ∷ node ∷ []) (drop d.at text)) × (node < n) × After (c.at + 1) text d.at
     × (d.line ≡ c.line + 1) × (d.nets ≡ c.nets + 1) × (d.sinks ≡ c.sinks) × (d.first ≡ c.sinks)
-    × (sources' ≡ set sources c.nets node) × (firstSinks' ≡ set first_sinks c.nets c.sinks)
+    × (sources' ≡ set sources c.nets node) × (first_sinks' ≡ set first_sinks c.nets c.sinks)
     × (seen' ≡ set seen node (c.nets + 1))
-SourceAdded n nets text c (ns.Stopped k) sources first_sinks seen sources' firstSinks' seen' r = r ≡ refused k
+SourceAdded n nets text c (ns.Stopped k) sources first_sinks seen sources' first_sinks' seen' r = r ≡ refused k
 
 -- what a T line does to the tables
 abbrev pub SinkAdded :

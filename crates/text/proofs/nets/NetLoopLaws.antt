@@ -81,12 +81,12 @@ module _
     left-more = omega (arith, length-drop c.at text, g.enough)
 
     pub going_more :
-        (step : NetStep) {next : NetCursor} (sources' firstSinks' sinks' criticalities' seen' : List ℕ) → step ≡ ns.On next
-        → net_line_at text step sources' firstSinks' sinks' criticalities' ≡ net_line timed kinds n nets (nets_at c sources first_sinks sinks criticalities) (drop c.at text)
-        → KeptAfter n nets text c step sources' firstSinks' sinks' criticalities' seen' → Going timed kinds n nets text whole next sources' firstSinks' sinks' criticalities' seen'
-    going_more step {next} sources' firstSinks' sinks' criticalities' seen' q e a =
-        let e' : values (nets_at next sources' firstSinks' sinks' criticalities') (drop next.at text) ≡ net_line timed kinds n nets (nets_at c sources first_sinks sinks criticalities) (drop c.at text) = rw q at e in
-        let a' : KeptAfter n nets text c (ns.On next) sources' firstSinks' sinks' criticalities' seen' = rw q at a in
+        (step : NetStep) {next : NetCursor} (sources' first_sinks' sinks' criticalities' seen' : List ℕ) → step ≡ ns.On next
+        → net_line_at text step sources' first_sinks' sinks' criticalities' ≡ net_line timed kinds n nets (nets_at c sources first_sinks sinks criticalities) (drop c.at text)
+        → KeptAfter n nets text c step sources' first_sinks' sinks' criticalities' seen' → Going timed kinds n nets text whole next sources' first_sinks' sinks' criticalities' seen'
+    going_more step {next} sources' first_sinks' sinks' criticalities' seen' q e a =
+        let e' : values (nets_at next sources' first_sinks' sinks' criticalities') (drop next.at text) ≡ net_line timed kinds n nets (nets_at c sources first_sinks sinks criticalities) (drop c.at text) = rw q at e in
+        let a' : KeptAfter n nets text c (ns.On next) sources' first_sinks' sinks' criticalities' seen' = rw q at a in
         record {
           left = g.left - 1;
           enough = omega (arith, length-drop c.at text, length-drop next.at text, g.enough, a'.0);
@@ -95,17 +95,17 @@ module _
         }
 
     pub going_later :
-        (step : NetStep) {next : NetCursor} (sources' firstSinks' sinks' criticalities' seen' : List ℕ) → step ≡ ns.On next
-        → KeptAfter n nets text c step sources' firstSinks' sinks' criticalities' seen' → length text - next.at < length text - c.at
-    going_later step {next} sources' firstSinks' sinks' criticalities' seen' q a =
-        let a' : KeptAfter n nets text c (ns.On next) sources' firstSinks' sinks' criticalities' seen' = rw q at a in
+        (step : NetStep) {next : NetCursor} (sources' first_sinks' sinks' criticalities' seen' : List ℕ) → step ≡ ns.On next
+        → KeptAfter n nets text c step sources' first_sinks' sinks' criticalities' seen' → length text - next.at < length text - c.at
+    going_later step {next} sources' first_sinks' sinks' criticalities' seen' q a =
+        let a' : KeptAfter n nets text c (ns.On next) sources' first_sinks' sinks' criticalities' seen' = rw q at a in
         omega (arith, a'.0)
 
     pub going_stops :
-        (step : NetStep) {number : ℕ} (sources' firstSinks' sinks' criticalities' : List ℕ) → step ≡ ns.Stopped number
-        → net_line_at text step sources' firstSinks' sinks' criticalities' ≡ net_line timed kinds n nets (nets_at c sources first_sinks sinks criticalities) (drop c.at text)
+        (step : NetStep) {number : ℕ} (sources' first_sinks' sinks' criticalities' : List ℕ) → step ≡ ns.Stopped number
+        → net_line_at text step sources' first_sinks' sinks' criticalities' ≡ net_line timed kinds n nets (nets_at c sources first_sinks sinks criticalities) (drop c.at text)
         → stopped number c.line ≡ whole
-    going_stops step {number} sources' firstSinks' sinks' criticalities' q e =
+    going_stops step {number} sources' first_sinks' sinks' criticalities' q e =
         let e' : refused number ≡ net_line timed kinds n nets (nets_at c sources first_sinks sinks criticalities) (drop c.at text) = rw q at e in
         sym (lines_stop (g.left - 1) timed kinds n nets c.line (nets_at c sources first_sinks sinks criticalities) (drop-cons text c.at 0 inside) (sym e')) ∙ rw (← left-more) g.same
 

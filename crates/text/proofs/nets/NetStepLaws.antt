@@ -146,20 +146,20 @@ module _ {n nets : ℕ} {text : List ℕ} {c : NetCursor} {sources first_sinks s
         ∙ ap (λ (i : ℕ). taking (with_source (nets_at c sources first_sinks sinks criticalities)) (of_kind source_kind kinds (source_line n nets i (drop c.at text)))) sources_now
 
     pub source_step :
-        (step : NetStep) (sources' firstSinks' seen' : List ℕ) → get_or text c.at 0 ≡ letter_s
+        (step : NetStep) (sources' first_sinks' seen' : List ℕ) → get_or text c.at 0 ≡ letter_s
         → source_due nets (nets_at c sources first_sinks sinks criticalities) ≡ true → c.nets < nets
-        → SourceAdded n nets text c step sources first_sinks seen sources' firstSinks' seen' (of_kind source_kind kinds (source_line n nets c.nets (drop c.at text)))
-        → (net_line_at text step sources' firstSinks' sinks criticalities ≡ net_line timed kinds n nets (nets_at c sources first_sinks sinks criticalities) (drop c.at text)) × KeptAfter
-        n nets text c step sources' firstSinks' sinks criticalities seen'
+        → SourceAdded n nets text c step sources first_sinks seen sources' first_sinks' seen' (of_kind source_kind kinds (source_line n nets c.nets (drop c.at text)))
+        → (net_line_at text step sources' first_sinks' sinks criticalities ≡ net_line timed kinds n nets (nets_at c sources first_sinks sinks criticalities) (drop c.at text)) × KeptAfter
+        n nets text c step sources' first_sinks' sinks criticalities seen'
     unfolding sinks_now
-    source_step (ns.Stopped number) sources' firstSinks' seen' e d b a = (sym (source_line-is e d ∙ ap (taking (with_source (nets_at c sources first_sinks sinks criticalities))) a), tt)
-    source_step (ns.On next) sources' firstSinks' seen' e d b a =
+    source_step (ns.Stopped number) sources' first_sinks' seen' e d b a = (sym (source_line-is e d ∙ ap (taking (with_source (nets_at c sources first_sinks sinks criticalities))) a), tt)
+    source_step (ns.On next) sources' first_sinks' seen' e d b a =
         let node : ℕ = a.0 in
         let in-seen : node < length seen = omega (arith, k.room.seen-long, a.2) in
         let s : take next.nets sources' ≡ take c.nets sources ++ (node ∷ []) = rw (a.5, a.8) (take_more sources c.nets node (omega arith)) in
-        let f : take next.nets firstSinks' ≡ take c.nets first_sinks ++ (c.sinks ∷ []) = rw (a.5, a.9) (take_more first_sinks c.nets c.sinks (omega arith)) in
+        let f : take next.nets first_sinks' ≡ take c.nets first_sinks ++ (c.sinks ∷ []) = rw (a.5, a.9) (take_more first_sinks c.nets c.sinks (omega arith)) in
         let none : drop c.sinks (take c.sinks sinks) ≡ [] = drop_of_length-le (take c.sinks sinks) {i = c.sinks} (omega (arith, all-sinks_now)) in
-        let lists : nets_at next sources' firstSinks' sinks criticalities ≡ with_source (nets_at c sources first_sinks sinks criticalities) (c.nets ∷ node ∷ []) = rw (s, f, a.6, all-sinks_now) in (
+        let lists : nets_at next sources' first_sinks' sinks criticalities ≡ with_source (nets_at c sources first_sinks sinks criticalities) (c.nets ∷ node ∷ []) = rw (s, f, a.6, all-sinks_now) in (
           ap (λ (l : NetLists). values l (drop next.at text)) lists ∙ sym (source_line-is e d ∙ ap (taking (with_source (nets_at c sources first_sinks sinks criticalities))) a.1),
           (
             omega (arith, a.3),

@@ -7,17 +7,17 @@ pub returns-then-ends_here : goal.returns-then-ends_here
 returns-then-ends_here c =
     whole_ends _ _ _ _ _ c.ends_here.ensures c.if-ends_here.true c.came_to.ensures
 
-pub returns-then-over-eq0 : goal.returns-then-over-eq0
-returns-then-over-eq0 c =
-    whole_settled _ _ _ _ _ c.ends_here.ensures c.if-ends_here.false c.if-over-eq0.true
+pub returns-then-settled : goal.returns-then-settled
+returns-then-settled c =
+    whole_settled _ _ _ _ _ c.ends_here.ensures c.if-ends_here.false c.if-settled.true
 
 pub returns-then-t-limit : goal.returns-then-t-limit
 returns-then-t-limit c =
-    whole_last _ _ _ _ _ c.ends_here.ensures c.if-ends_here.false c.if-over-eq0.false c.if-t-limit.true
+    whole_last _ _ _ _ _ c.ends_here.ensures c.if-ends_here.false c.if-settled.false c.if-t-limit.true
 
 pub returns : goal.returns
 returns c =
-    whole_on _ _ _ _ _ c.ends_here.ensures c.if-ends_here.false c.if-over-eq0.false c.if-t-limit.false
+    whole_on _ _ _ _ _ c.ends_here.ensures c.if-ends_here.false c.if-settled.false c.if-t-limit.false
 
 pub ends_here-requires : goal.ends_here-requires
 ends_here-requires c = tt

@@ -252,11 +252,11 @@ over_count-over-requires c =
     let users = users-long _ (net_safe (goal.at.over_count-over-requires c).At-loop-net).kept in
     (le_of_eq (l ∙ sym users), le_trans (le_of_eq l) (kinds-few _ r.block-sound.kinds_sound_lem))
 
-pub returns-then-over-eq0 : goal.returns-then-over-eq0
-returns-then-over-eq0 c =
-    let at : At-loop-net = (goal.at.returns-then-over-eq0 c).At-loop-net in
+pub returns-then-settled : goal.returns-then-settled
+returns-then-settled c =
+    let at : At-loop-net = (goal.at.returns-then-settled c).At-loop-net in
     let sound = c.requires.ready.0.0 in
-    let none = sym (over-is _ sound _ c.over_count-over.ensures) ∙ c.if-over-eq0.true in
+    let none = sym (over-is _ sound _ c.over_count-over.ensures) ∙ c.if-settled.true in
     let answer = c.answer.ensures in
     let numbers : Answers c.answer.result c.loop-net.tariff = record { iteration-is = answer.1; turns-is = answer.2; words-is = answer.3 } in
     record {
@@ -275,7 +275,7 @@ returns-then-tariff-terms c =
     record {
       answers = λ p r.
           rw c.clear-then-tariff-terms.ensures
-          (keep_limit _ sound (whole at c.loop-net-test.false p r) _ over c.if-over-eq0.false c.if-tariff-terms.true result answer.0 numbers);
+          (keep_limit _ sound (whole at c.loop-net-test.false p r) _ over c.if-settled.false c.if-tariff-terms.true result answer.0 numbers);
       expanded = λ p m r ran. counts-answer (net_counted at p m r ran) result answer.4 answer.3;
     }
 
@@ -315,7 +315,7 @@ iterations-preserved c =
     let e = c.next_iteration-tariff.ensures in
     λ p r. (
       _,
-      keep_next _ sound (whole at c.loop-net-test.false p r) (λ z. c.if-over-eq0.false (over ∙ z)) c.if-tariff-terms.false e.0 e.1 e.2 e.3
+      keep_next _ sound (whole at c.loop-net-test.false p r) (λ z. c.if-settled.false (over ∙ z)) c.if-tariff-terms.false e.0 e.1 e.2 e.3
           c.grow_histories.ensures,
       λ k aimed ran h.
           counts_same aimed _ _ _ _ _ _ e.4 e.5 e.3 refl

@@ -64,7 +64,7 @@ aim-r-requires c =
     record {
       ready =
           (ready.node, c.if-v-n.true, row_room ready inv to, inv.some.queue, c.requires.2, aim_row-sum ready inv to more (omega arith));
-      back_lent = aim_row-fits ready inv to more c.if-v-n.true (omega arith);
+      reach_fits = aim_row-fits ready inv to more c.if-v-n.true (omega arith);
     }
 
 pub overflow_add-e : goal.overflow_add-e
