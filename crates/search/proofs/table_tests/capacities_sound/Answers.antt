@@ -1,12 +1,12 @@
--- `tables::capacities_sound` meets its contract. The loop's invariant: `fine` and the test of the capacities that are left make the test of them all.
+-- `table_tests::capacities_sound` meets its contract. The loop's invariant: `fine` and the test of the capacities that are left make the test of them all.
 -- Assumes nothing.
 use mathlib.Core.Path.{sym, ◌∙◌}
 use native.Mathlib.Omega.{arith}
 use Rattle.std.proofs.Common.{rules}
 use Rattle.search.proofs.KeptLaws.{kept-none, kept-all, fails, stays, every-next, every-end}
 use Rattle.search.proofs.TableLaws.{capacity_sound, capacity_low, capacity_byte, capacities-length, capacities-each}
-use Rattle.search.proofs.tables.capacities_sound.Goals.{else-capacity-v-lt1, then-capacity-v-lt1}
-use Rattle.search.proofs.tables.capacities_sound.Goals as goal
+use Rattle.search.proofs.table_tests.capacities_sound.Goals.{else-capacity-v-lt1, then-capacity-v-lt1}
+use Rattle.search.proofs.table_tests.capacities_sound.Goals as goal
 
 pub returns-then-capacity-n : goal.returns-then-capacity-n
 returns-then-capacity-n c = sym (capacities-length _ _ (search rules))

@@ -1,4 +1,4 @@
--- `tables::delays_sound` meets its contract. The loop's invariant: `fine` and the test of the delays that are left make the test of them all.
+-- `table_tests::delays_sound` meets its contract. The loop's invariant: `fine` and the test of the delays that are left make the test of them all.
 -- Assumes nothing.
 use mathlib.Core.Path.{sym, ◌∙◌}
 use native.Mathlib.Omega.{arith}
@@ -8,8 +8,8 @@ use borrow.Author.Tests.{le-leb, lt-leb}
 use Rattle.price.specs.Bounds.{delay_most}
 use Rattle.search.proofs.KeptLaws.{kept-none, kept-all, fails, stays, every-next, every-end}
 use Rattle.search.proofs.TableLaws.{delay_sound, delays-length, delays-each}
-use Rattle.search.proofs.tables.delays_sound.Goals.{else-delay-v-gt-DELAY_MOST, then-delay-v-gt-DELAY_MOST}
-use Rattle.search.proofs.tables.delays_sound.Goals as goal
+use Rattle.search.proofs.table_tests.delays_sound.Goals.{else-delay-v-gt-DELAY_MOST, then-delay-v-gt-DELAY_MOST}
+use Rattle.search.proofs.table_tests.delays_sound.Goals as goal
 
 pub returns-then-delay-n : goal.returns-then-delay-n
 returns-then-delay-n c = sym (delays-length _ _ (search rules))

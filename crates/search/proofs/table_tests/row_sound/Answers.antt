@@ -1,4 +1,4 @@
--- `tables::row_sound` meets its contract. The loop's invariant: `fine` and the test of the targets that are left, from `low` on, make the test of the row.
+-- `table_tests::row_sound` meets its contract. The loop's invariant: `fine` and the test of the targets that are left, from `low` on, make the test of the row.
 -- Assumes nothing.
 use mathlib.Core.Bool.{not}
 use mathlib.Core.Path.{refl, ◌∙◌, ap}
@@ -12,9 +12,9 @@ use borrow.Author.Tests.{le-leb, lt-leb, eq-eqb, ne_eqb}
 use Rattle.price.specs.Test.{both}
 use Rattle.search.specs.Tables.{row_sound}
 use Rattle.search.proofs.KeptLaws.{Kept, kept_fails, kept-all, fails, stays}
-use Rattle.search.proofs.tables.RisingRowLaws.{left_sound, left_whole, left-next, left_end}
-use Rattle.search.proofs.tables.row_sound.Goals.{else-v-low, else-v-u, then-v-low, then-v-u}
-use Rattle.search.proofs.tables.row_sound.Goals as goal
+use Rattle.search.proofs.table_tests.RisingRowLaws.{left_sound, left_whole, left-next, left_end}
+use Rattle.search.proofs.table_tests.row_sound.Goals.{else-v-low, else-v-u, then-v-low, then-v-u}
+use Rattle.search.proofs.table_tests.row_sound.Goals as goal
 
 pub loop-e-init : goal.loop-e-init
 loop-e-init c = record { whole_is = left_whole c.args.n c.args.u (slice c.args.from c.args.to c.args.edge_target.now) }

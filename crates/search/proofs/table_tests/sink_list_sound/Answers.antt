@@ -1,11 +1,11 @@
--- `tables::sink_list_sound` meets its contract. The loop's invariant: every sink passed is a node.
+-- `table_tests::sink_list_sound` meets its contract. The loop's invariant: every sink passed is a node.
 -- Assumes nothing.
 use mathlib.Core.Path.{sym}
 use native.Mathlib.Omega.{arith}
 use Rattle.std.proofs.Common.{rules}
 use borrow.Author.Count.{below_none, below_more}
 use Rattle.search.proofs.TableLaws.{sinks_many, sinks_bad, sinks-all}
-use Rattle.search.proofs.tables.sink_list_sound.Goals as goal
+use Rattle.search.proofs.table_tests.sink_list_sound.Goals as goal
 
 pub returns-then-sinks-gt-SINKS_MOST : goal.returns-then-sinks-gt-SINKS_MOST
 returns-then-sinks-gt-SINKS_MOST c = sym (sinks_many _ _ (search rules))

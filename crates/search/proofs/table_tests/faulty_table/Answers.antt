@@ -1,4 +1,4 @@
--- `tables::faulty_table` meets its contract: each return by the law of the lowest faulty table, from what the four tests answered.
+-- `table_tests::faulty_table` meets its contract: each return by the law of the lowest faulty table, from what the four tests answered.
 -- Assumes nothing.
 use mathlib.Core.Bool.{not}
 use Rattle.std.proofs.Common.{ap}
@@ -6,7 +6,7 @@ use mathlib.Core.Path.{sym}
 use Rattle.search.proofs.BlockLaws.{kinds-few}
 use Rattle.search.proofs.KeptLaws.{refused, passed}
 use Rattle.search.proofs.TableLaws.{faulty_1, faulty_2, faulty_3, faulty_4, faulty_none}
-use Rattle.search.proofs.tables.faulty_table.Goals as goal
+use Rattle.search.proofs.table_tests.faulty_table.Goals as goal
 
 pub returns-then-not-kinds_sound : goal.returns-then-not-kinds_sound
 returns-then-not-kinds_sound c = sym (faulty_1 _ (refused c.kinds_sound.ensures (ap not c.if-not-kinds_sound.true)))

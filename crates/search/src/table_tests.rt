@@ -4,12 +4,12 @@ ghost use Rattle.std.specs.Prelude.{◌≡◌, true, ◌≤◌, leb, length};
 ghost use Rattle.std.proofs.Math.Seq.{slice};
 ghost use Rattle.price.specs.Bounds.{nodes_most};
 ghost use Rattle.price.specs.Lists.{neighbours};
-ghost use Rattle.search.specs.Block.{block_of, graph_of};
+ghost use Rattle.search.specs.Lent.{block_in, graph_in, tested};
 ghost use Rattle.search.specs.Tables.{kinds_sound, capacities_sound, first_edges_sound, edge_targets_sound, row_sound, faulty_table};
 ghost use Rattle.search.specs.Tables.{delays_sound};
 ghost use Rattle.search.specs.Replies.{sink_list_sound};
 
-use crate::{EDGES_MOST, NODES_MOST, SINKS_MOST};
+use crate::{BadTable, EDGES_MOST, NODES_MOST, SINKS_MOST, Tables};
 
 // The largest kind, and the largest delay.
 const KIND_MOST: u8 = 53;
@@ -20,17 +20,12 @@ const DELAY_MOST: u16 = 1000;
 fn kinds_sound(kind: &[u8]) -> bool
     ensures { result ≡ kinds_sound kind.now }
 {
-    if kind.len() < 1 {
-        return false;
-    }
-    if NODES_MOST < kind.len() {
+    if kind.is_empty() || NODES_MOST < kind.len() {
         return false;
     }
     let mut fine = true;
-    let mut v = 0;
-    while v < kind.len() {
-        fine = if KIND_MOST < kind[v] { false } else { fine };
-        v += 1;
+    for k in kind {
+        fine = if KIND_MOST < *k { false } else { fine };
     }
     fine
 }
@@ -43,10 +38,8 @@ fn capacities_sound(n: usize, capacity: &[u8]) -> bool
         return false;
     }
     let mut fine = true;
-    let mut v = 0;
-    while v < capacity.len() {
-        fine = if capacity[v] < 1 { false } else { fine };
-        v += 1;
+    for c in capacity {
+        fine = if *c < 1 { false } else { fine };
     }
     fine
 }
@@ -56,14 +49,12 @@ fn never_falls(first_edge: &[u32]) -> bool
     ensures { result ≡ neighbours leb first_edge.now }
 {
     let mut fine = true;
-    let mut v = 1;
-    while v < first_edge.len() {
+    for v in 1..first_edge.len() {
         fine = if first_edge[v] < first_edge[v - 1] {
             false
         } else {
             fine
         };
-        v += 1;
     }
     fine
 }
@@ -73,16 +64,10 @@ fn first_edges_sound(n: usize, edges: usize, first_edge: &[u32]) -> bool
     requires { n ≤ nodes_most }
     ensures { result ≡ first_edges_sound n edges first_edge.now }
 {
-    if first_edge.len() != n + 1 {
-        return false;
-    }
-    if first_edge[0] != 0 {
-        return false;
-    }
-    if !never_falls(first_edge) {
-        return false;
-    }
-    first_edge[n] as usize == edges
+    first_edge.len() == n + 1
+        && first_edge[0] == 0
+        && never_falls(first_edge)
+        && first_edge[n] as usize == edges
 }
 
 // The row of node u, which stands in table 4 from `from` to below `to`: each a node but u itself, strictly rising.
@@ -93,61 +78,54 @@ fn row_sound(n: usize, edge_target: &[u16], from: usize, to: usize, u: usize) ->
     let mut fine = true;
     // The least target that may come next.
     let mut low = 0;
-    let mut e = from;
-    while e < to {
+    for e in from..to {
         let v = edge_target[e] as usize;
         fine = if v < low { false } else { fine };
         fine = if v == u { false } else { fine };
         low = v + 1;
-        e += 1;
     }
     // They rise, so only the last has to be below n.
-    if n < low {
-        return false;
-    }
-    fine
+    fine && low <= n
 }
 
 // Table 4, once table 3 keeps its rule.
-fn edge_targets_sound(kind: &[u8], first_edge: &[u32], edge_target: &[u16]) -> bool
-    requires { first_edges_sound (length kind.now) (length edge_target.now) first_edge.now ≡ true }
-    ensures { result ≡ edge_targets_sound (graph_of kind.now first_edge.now edge_target.now) }
+fn edge_targets_sound(tables: &Tables) -> bool
+    requires { let t = tables.now in
+        first_edges_sound (length t.kind.now) (length t.edge_target.now) t.first_edge.now ≡ true }
+    ensures { result ≡ edge_targets_sound (graph_in tables.now) }
 {
-    let n = kind.len();
-    if EDGES_MOST < edge_target.len() {
+    let n = tables.kind.len();
+    if EDGES_MOST < tables.edge_target.len() {
         return false;
     }
-    let mut u = 0;
-    while u < n {
-        let from = first_edge[u] as usize;
-        let to = first_edge[u + 1] as usize;
-        if !row_sound(n, edge_target, from, to, u) {
+    for u in 0..n {
+        let from = tables.first_edge[u] as usize;
+        let to = tables.first_edge[u + 1] as usize;
+        if !row_sound(n, tables.edge_target, from, to, u) {
             return false;
         }
-        u += 1;
     }
     true
 }
 
-// The lowest of tables 1 to 4 that breaks its rule, 0 where none does.
-pub fn faulty_table(kind: &[u8], capacity: &[u8], first_edge: &[u32], edge_target: &[u16]) -> u32
-    ensures { let block = block_of kind.now capacity.now first_edge.now edge_target.now in
-        result ≡ faulty_table block }
+// Tables 1 to 4 keep their rules, or the lowest that doesn't is refused.
+pub fn faulty_table(tables: &Tables) -> Result<(), BadTable>
+    ensures { result ≡ tested (faulty_table (block_in tables.now)) }
 {
-    let n = kind.len();
-    if !kinds_sound(kind) {
-        return 1;
+    let n = tables.kind.len();
+    if !kinds_sound(tables.kind) {
+        return Err(BadTable { table: 1 });
     }
-    if !capacities_sound(n, capacity) {
-        return 2;
+    if !capacities_sound(n, tables.capacity) {
+        return Err(BadTable { table: 2 });
     }
-    if !first_edges_sound(n, edge_target.len(), first_edge) {
-        return 3;
+    if !first_edges_sound(n, tables.edge_target.len(), tables.first_edge) {
+        return Err(BadTable { table: 3 });
     }
-    if !edge_targets_sound(kind, first_edge, edge_target) {
-        return 4;
+    if !edge_targets_sound(tables) {
+        return Err(BadTable { table: 4 });
     }
-    0
+    Ok(())
 }
 
 // Table 9.
@@ -158,10 +136,8 @@ pub fn delays_sound(n: usize, delay: &[u16]) -> bool
         return false;
     }
     let mut fine = true;
-    let mut v = 0;
-    while v < delay.len() {
-        fine = if DELAY_MOST < delay[v] { false } else { fine };
-        v += 1;
+    for d in delay {
+        fine = if DELAY_MOST < *d { false } else { fine };
     }
     fine
 }
@@ -170,15 +146,5 @@ pub fn delays_sound(n: usize, delay: &[u16]) -> bool
 pub fn sink_list_sound(n: usize, sinks: &[u16]) -> bool
     ensures { result ≡ sink_list_sound n sinks.now }
 {
-    if SINKS_MOST < sinks.len() {
-        return false;
-    }
-    let mut i = 0;
-    while i < sinks.len() {
-        if n <= sinks[i] as usize {
-            return false;
-        }
-        i += 1;
-    }
-    true
+    sinks.len() <= SINKS_MOST && sinks.iter().all(|s| (*s as usize) < n)
 }

@@ -1,11 +1,11 @@
--- `tables::row_sound` meets its contract. The loop's invariant: `fine` and the test of the targets that are left, from `low` on, make the test of the row.
+-- `table_tests::row_sound` meets its contract. The loop's invariant: `fine` and the test of the targets that are left, from `low` on, make the test of the row.
 -- Assumes nothing.
 use Prim.Native.Nat.{◌-◌}
 use lib.Seq.{slice}
 use Rattle.search.specs.Tables.{row_sound}
 use Rattle.search.proofs.KeptLaws.{Kept}
-use Rattle.search.proofs.tables.RisingRowLaws.{left_sound}
-use Rattle.search.proofs.tables.row_sound.Given as goal
+use Rattle.search.proofs.table_tests.RisingRowLaws.{left_sound}
+use Rattle.search.proofs.table_tests.row_sound.Given as goal
 
 abbrev pub invariant-loop-e : goal.invariant-loop-e
 invariant-loop-e l =

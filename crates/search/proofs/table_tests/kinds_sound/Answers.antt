@@ -1,4 +1,4 @@
--- `tables::kinds_sound` meets its contract. The loop's invariant: `fine` and the test of the kinds that are left make the test of them all.
+-- `table_tests::kinds_sound` meets its contract. The loop's invariant: `fine` and the test of the kinds that are left make the test of them all.
 -- Assumes nothing.
 use mathlib.Core.Path.{sym, ◌∙◌}
 use lib.ListN.{get_or}
@@ -7,8 +7,8 @@ use borrow.Author.Tests.{le-leb, lt-leb}
 use Rattle.price.specs.Bounds.{kind_most}
 use Rattle.search.proofs.KeptLaws.{kept-none, kept-all, fails, stays, every-next, every-end}
 use Rattle.search.proofs.TableLaws.{kind_sound, kinds-none, kinds_many, kinds-each}
-use Rattle.search.proofs.tables.kinds_sound.Goals.{else-kind-v-gt-KIND_MOST, then-kind-v-gt-KIND_MOST}
-use Rattle.search.proofs.tables.kinds_sound.Goals as goal
+use Rattle.search.proofs.table_tests.kinds_sound.Goals.{else-kind-v-gt-KIND_MOST, then-kind-v-gt-KIND_MOST}
+use Rattle.search.proofs.table_tests.kinds_sound.Goals as goal
 
 pub returns-then-kind-lt1 : goal.returns-then-kind-lt1
 returns-then-kind-lt1 c = sym (kinds-none _ (search rules))

@@ -1,11 +1,11 @@
--- `tables::never_falls` meets its contract. The loop's invariant: `fine` and the test of what is left, from the entry before place v on, make the test of the whole table.
+-- `table_tests::never_falls` meets its contract. The loop's invariant: `fine` and the test of what is left, from the entry before place v on, make the test of the whole table.
 -- Assumes nothing.
 use Rattle.std.proofs.Common.{rules}
 use borrow.Author.Tests.{le-leb, lt-leb}
 use Rattle.search.proofs.KeptLaws.{kept-none, kept-all, fails, stays}
 use Rattle.search.proofs.TableLaws.{falls_next, falls_end}
-use Rattle.search.proofs.tables.never_falls.Goals.{else-first_edge-v, then-first_edge-v}
-use Rattle.search.proofs.tables.never_falls.Goals as goal
+use Rattle.search.proofs.table_tests.never_falls.Goals.{else-first_edge-v, then-first_edge-v}
+use Rattle.search.proofs.table_tests.never_falls.Goals as goal
 
 pub loop-v-init : goal.loop-v-init
 loop-v-init c = (search rules, kept-none)

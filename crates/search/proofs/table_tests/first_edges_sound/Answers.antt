@@ -1,4 +1,4 @@
--- `tables::first_edges_sound` meets its contract: each return by the law of the part of the rule that was tested.
+-- `table_tests::first_edges_sound` meets its contract: each return by the law of the part of the rule that was tested.
 -- Assumes nothing.
 use mathlib.Core.Bool.{not}
 use Rattle.std.proofs.Common.{ap}
@@ -7,7 +7,7 @@ use native.Mathlib.Omega.{arith}
 use Rattle.std.proofs.Common.{rules}
 use Rattle.search.proofs.KeptLaws.{refused, passed}
 use Rattle.search.proofs.TableLaws.{firsts-length, firsts_begin, firsts_fall, firsts-last}
-use Rattle.search.proofs.tables.first_edges_sound.Goals as goal
+use Rattle.search.proofs.table_tests.first_edges_sound.Goals as goal
 
 pub returns-then-first_edge-n : goal.returns-then-first_edge-n
 returns-then-first_edge-n c = sym (firsts-length _ _ _ (search rules))

@@ -1,4 +1,4 @@
--- `tables::edge_targets_sound` meets its contract. The loop's invariant: every row passed keeps its rule.
+-- `table_tests::edge_targets_sound` meets its contract. The loop's invariant: every row passed keeps its rule.
 -- That table 3 keeps its rule puts each row within table 4.
 -- Assumes nothing.
 use mathlib.Core.Bool.{not}
@@ -12,7 +12,7 @@ use Rattle.search.specs.Block.{row}
 use Rattle.search.proofs.BlockLaws.{firsts-long, firsts-most}
 use Rattle.search.proofs.KeptLaws.{refused, passed}
 use Rattle.search.proofs.TableLaws.{edges_many, edges_bad, edges-all}
-use Rattle.search.proofs.tables.edge_targets_sound.Goals as goal
+use Rattle.search.proofs.table_tests.edge_targets_sound.Goals as goal
 
 pub returns-then-edge_target-gt-EDGES_MOST : goal.returns-then-edge_target-gt-EDGES_MOST
 returns-then-edge_target-gt-EDGES_MOST c = sym (edges_many _ (search rules))
