@@ -187,17 +187,7 @@ fn relax(
     let old = work[v];
     if GOAL <= old {
         let p = clamped_price(tables, prices, v);
-        return label(
-            tables.first_edge,
-            tables.edge_target,
-            goals,
-            work,
-            n,
-            u,
-            v,
-            d + p,
-            r,
-        );
+        return label(tables, goals, work, u, v, d + p, r);
     }
     if 0 < old {
         lower(work, n, u, v, d);
