@@ -1,4 +1,5 @@
 pub mod Job
+pub mod Lent
 pub mod Tables
 pub mod Join
 pub mod Steps
