@@ -2,14 +2,14 @@
 -- Assumes nothing.
 use mathlib.Core.List.{[], ◌∷◌}
 use mathlib.Core.Path.{◌≡◌, sym, ◌∙◌, ap}
+use Rattle.std.specs.Prelude.{Result, Ok, Err}
 use Prim.Native.Nat.{ℕ, ◌≤◌, ◌<◌}
 use native.Mathlib.Omega.{arith}
 use borrow.Author.Tests.{le-leb, lt-leb}
 use Rattle.price.specs.Bounds.{kind_most, factor_most, others_most, capacity_most, history_most}
 use Rattle.price.specs.Prices.{price_of}
 use Rattle.price.specs.Replies.{InBounds, PriceReply, price_reply, price_reply_of, priced, refused}
-use Rattle.price.specs.declared.PriceAnswer.{PriceAnswer}
-use Rattle.price.specs.declared.PriceAnswer.TheVariants.{Price, Refused}
+use Rattle.price.specs.declared.BadNumber.{BadNumber}
 
 -- a price is no refusal
 pub not_priced : {A : Type 0} (p place : ℕ) → priced p ≡ refused place → A
@@ -19,12 +19,12 @@ not_priced p place q =
     absurd (omega arith)
 
 -- what an answer is whose reply is a price
-module _ {a : PriceAnswer} {p : ℕ} (e : price_reply_of a ≡ priced p) where
-  pub answer-priced : {q : ℕ} → a ≡ Price q → q ≡ p
+module _ {a : Result ℕ BadNumber} {p : ℕ} (e : price_reply_of a ≡ priced p) where
+  pub answer-priced : {q : ℕ} → a ≡ Ok q → q ≡ p
   answer-priced is = ap (λ (x : PriceReply). x.price) (sym (ap price_reply_of is) ∙ e)
 
-  pub answer_not_refused : {place : ℕ} → a ≡ Refused place → ⊥
-  answer_not_refused {place} is = not_priced p place (sym e ∙ ap price_reply_of is)
+  pub answer_not_refused : {bad : BadNumber} → a ≡ Err bad → ⊥
+  answer_not_refused {bad} is = not_priced p bad.place (sym e ∙ ap price_reply_of is)
 
 module _ (k f o c h : ℕ) where
   pub reply_kind : kind_most < k → price_reply k f o c h ≡ refused 0

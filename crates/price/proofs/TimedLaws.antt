@@ -6,6 +6,7 @@
 -- Assumes nothing.
 use mathlib.Core.Bool.{Bool, true, false}
 use mathlib.Core.Path.{◌≡◌, refl, sym, ◌∙◌, ap}
+use Rattle.std.specs.Prelude.{Result, Ok, Err}
 use Prim.Native.Nat.{ℕ, ◌+◌, ◌-◌, ◌*◌, ◌≤◌, ◌<◌}
 use native.Mathlib.Nat.{mul-le-mul, mul-pos, le_refl}
 use native.Mathlib.Omega.{arith}
@@ -18,8 +19,7 @@ use Rattle.price.specs.Prices.{overuse, price_of}
 use Rattle.price.specs.Replies.{PriceReply, InBounds, priced, refused, price_reply_of, five_kept, price_reply}
 use Rattle.price.specs.Timed.{timed_price, timed_reply, weighed, weighed_reply, history_bound, weighed_most, WeighedInBounds}
 use Rattle.price.specs.declared.Weighting.{Weighting}
-use Rattle.price.specs.declared.PriceAnswer.{PriceAnswer}
-use Rattle.price.specs.declared.PriceAnswer.TheVariants.{Price, Refused}
+use Rattle.price.specs.declared.BadNumber.{BadNumber}
 use Rattle.price.proofs.TestLaws.{by_test, both_left, both_right}
 use Rattle.price.proofs.PriceLaws.{base_most_lem, congestion_most, price-pos, price_most_lem, path_most_lem}
 use Rattle.price.proofs.ReplyLaws.{reply_priced, not_priced}
@@ -167,7 +167,7 @@ five-priced true true true true false p n q = not_priced n 4 q
 five-priced true true true true true p n q = (refl, refl, refl, refl, refl, ap (λ (x : PriceReply). x.price) q)
 
 module _ (k f o c h : ℕ) where
-  priced-bounds : {n : ℕ} → priced n ≡ price_reply k f o c h → InBounds k f o c h × (n ≡ price_of k f o c h)
+  pub priced-bounds : {n : ℕ} → priced n ≡ price_reply k f o c h → InBounds k f o c h × (n ≡ price_of k f o c h)
   unfolding price_reply
   priced-bounds {n} q =
       let t =
@@ -184,16 +184,16 @@ module _ (k f o c h : ℕ) where
         t.5,
       )
 
-  pub answer-bounds : {r : PriceAnswer} {n : ℕ} → r ≡ Price n → price_reply_of r ≡ price_reply k f o c h → InBounds k f o c h × (n ≡ price_of k f o c h)
+  pub answer-bounds : {r : Result ℕ BadNumber} {n : ℕ} → r ≡ Ok n → price_reply_of r ≡ price_reply k f o c h → InBounds k f o c h × (n ≡ price_of k f o c h)
   answer-bounds q e = priced-bounds (sym (ap price_reply_of q) ∙ e)
 
   module _ (d cr : ℕ) where
-    refused-same : {place : ℕ} → refused place ≡ price_reply k f o c h → refused place ≡ timed_reply k f o c h d cr
+    pub refused-same : {place : ℕ} → refused place ≡ price_reply k f o c h → refused place ≡ timed_reply k f o c h d cr
     unfolding price_reply timed_reply
     refused-same {place} q =
         five-refused (leb k kind_most) (leb f factor_most) (leb o others_most) (both (leb 1 c) (leb c capacity_most)) (both (leb 1 h) (leb h history_most)) (price_of k f o c h) place _ q
 
-    pub timed_refused : {r : PriceAnswer} {place : ℕ} → r ≡ Refused place → price_reply_of r ≡ price_reply k f o c h → price_reply_of r ≡ timed_reply k f o c h d cr
+    pub timed_refused : {r : Result ℕ BadNumber} {bad : BadNumber} → r ≡ Err bad → price_reply_of r ≡ price_reply k f o c h → price_reply_of r ≡ timed_reply k f o c h d cr
     timed_refused q e = ap price_reply_of q ∙ refused-same (sym (ap price_reply_of q) ∙ e)
 
     -- past the five
