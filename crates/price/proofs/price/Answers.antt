@@ -8,4 +8,4 @@ use Rattle.price.proofs.RunningHolds.{historic-price}
 use Rattle.price.proofs.price.Goals as goal
 
 pub returns : goal.returns
-returns c = ap priced (c.historic_cost.ensures ∙ historic-price _ _ _ _ _) ∙ sym (reply_priced _ _ _ _ _ (search rules))
+returns c = ap priced (c.historic_cost.ensures ∙ historic-price _ _ _ _ _) ∙ sym (reply_priced (search rules))
