@@ -11,3 +11,8 @@ told (Some n) = n ∷ []
 -- its own number, then those beside it
 abbrev pub refused_numbers : Refused → List ℕ
 refused_numbers r = r.number ∷ r.first ∷ told r.second
+
+-- the same where something is refused, else none
+abbrev pub numbers_if : Option Refused → List ℕ
+numbers_if None = []
+numbers_if (Some r) = refused_numbers r
