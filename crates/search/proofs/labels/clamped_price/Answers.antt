@@ -5,9 +5,6 @@ use Rattle.search.specs.Lent.{congestion_in}
 use Rattle.search.proofs.ClampedLaws.{clamped_answer}
 use Rattle.search.proofs.labels.clamped_price.Goals as goal
 
-pub delay_at-requires : goal.delay_at-requires
-delay_at-requires c = λ t. le_trans c.requires.v_in_bounds (c.requires.lists_long.delays-long t)
-
 pub returns : goal.returns
 returns c =
     let t = c.args.tables.now in
