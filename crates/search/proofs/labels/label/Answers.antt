@@ -10,6 +10,3 @@ add-requires-clause-heaped c = (label-heap c.requires c.args.d c.set_from.ensure
 
 pub returns-then-has_to_wait : goal.returns-then-has_to_wait
 returns-then-has_to_wait c = record { labelled = waits (rw c.set_from.ensures at c.add.ensures) refl; goal_met = c.met-best.ensures }
-
-pub returns : goal.returns
-returns c = record { labelled = ends (rw c.set_from.ensures at (c.has_to_wait.ensures c.if-has_to_wait.false)) c.set_from.ensures refl; goal_met = c.met-best.ensures }

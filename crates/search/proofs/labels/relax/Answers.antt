@@ -10,7 +10,3 @@ use Rattle.search.proofs.labels.relax.Goals as goal
 pub returns-then-old-ge-GOAL : goal.returns-then-old-ge-GOAL
 returns-then-old-ge-GOAL c =
     relax_labels c.clamped_price-p.ensures.0 c.if-n-v.false c.if-old-ge-GOAL.true c.label.ensures.labelled c.label.ensures.goal_met
-
-pub returns-then-old-gt0 : goal.returns-then-old-gt0
-returns-then-old-gt0 c =
-    lowers c.if-n-v.false c.if-old-gt0.true c.if-old-ge-GOAL.false c.lower.ensures refl refl
