@@ -1,8 +1,8 @@
 -- `search::labels::label` meets its contract: two stores and, where v has something to spread, a place in the heap.
 -- Assumes nothing.
-use mathlib.Core.Path.{refl, ◌∙◌}
-use Rattle.search.specs.Spread.{ends, waits}
-use Rattle.search.proofs.SpreadSteps.{labelled-long, label-heap, label-row}
+use mathlib.Core.Path.{refl}
+use Rattle.search.specs.Spread.{waits}
+use Rattle.search.proofs.SpreadSteps.{label-heap}
 use Rattle.search.proofs.labels.label.Goals as goal
 
 pub add-requires-clause-heaped : goal.add-requires-clause-heaped

@@ -1,10 +1,6 @@
 -- `search::labels::relax` meets its contract: each return is one of the four things that looking at an edge can do.
 -- Assumes nothing.
-use native.Mathlib.Omega.{arith}
-use mathlib.Core.Path.{refl}
-use Rattle.search.specs.Spread.{beyond, lowers, tree}
-use Rattle.search.proofs.labels.RelaxLaws.{relax_label, relax_labels}
-use Rattle.price.proofs.TimedLaws.{weighed-low}
+use Rattle.search.proofs.labels.RelaxLaws.{relax_labels}
 use Rattle.search.proofs.labels.relax.Goals as goal
 
 pub returns-then-old-ge-GOAL : goal.returns-then-old-ge-GOAL

@@ -2,7 +2,7 @@
 -- a label makes a bare node wait at most.
 -- Assumes nothing.
 use native.Mathlib.Omega.{arith}
-use Rattle.search.proofs.SpreadRun.{run_start, run_node, run_fits, run_early, run_take, run_settle, run_more, run_falls, run_end}
+use Rattle.search.proofs.SpreadRun.{run_node, run_fits, run_early, run_settle, run_more, run_falls, run_end}
 use Rattle.search.proofs.labels.settle_all.Goals as goal
 
 pub bounds-work-u : goal.bounds-work-u
