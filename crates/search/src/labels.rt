@@ -138,15 +138,14 @@ fn label(
     let best = met(work[v], d, r.best);
     work[v] = d;
     set_from(work, n, u, v);
-    let count = r.count;
     if has_to_wait(tables, goals, work, v) {
-        heap::add(work, n, count, v, d);
+        heap::add(work, n, r.count, v, d);
         return Reach {
             best,
-            count: count + 1,
+            count: r.count + 1,
         };
     }
-    Reach { best, count }
+    Reach { best, ..r }
 }
 
 // Node v has its label already, from its predecessor; u, of label d, takes that one's place where it is as near and lower. That it is as
@@ -251,18 +250,7 @@ pub fn settle_all(
         }
         let rest = r.count - 1;
         heap::take(work, n, rest);
-        let best = r.best;
-        r = settle(
-            tables,
-            prices,
-            goals,
-            work,
-            u,
-            Reach {
-                best: best,
-                count: rest,
-            },
-        );
+        r = settle(tables, prices, goals, work, u, Reach { count: rest, ..r });
     }
     r.best
 }
