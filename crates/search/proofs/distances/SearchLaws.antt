@@ -49,17 +49,17 @@ no_goals n w = record { same = same_none 0 n w; there = λ j l. absurd (not-suc-
 no_step : (n : ℕ) (price : ℕ → ℕ) (w : List ℕ) → LeastGoal n price [] w 0 0
 no_step n price w = record { most = omega arith; least = λ j l. absurd (not-suc-le-zero l) }
 
-module _ (ks cs fs ts : List ℕ) (c : Congestion) (marks w₀ : List ℕ) (sound : Sound (block_of ks cs fs ts)) (ready : PricesReady ks cs c marks) (long : 8 * length ks ≤ length w₀) where
+module _ {ks cs fs ts : List ℕ} {c : Congestion} {marks : List ℕ} (w₀ : List ℕ) (pre : PricesReady ks cs c marks × Sound (block_of ks cs fs ts) × (8 * length ks ≤ length w₀)) where
   search_fits : Fitted (block_of ks cs fs ts) c marks [] w₀
   search_fits =
       fitted (block_of ks cs fs ts) c marks [] w₀
-      (fitting-sound (block_of ks cs fs ts) c marks [] w₀ sound (no_sinks (length ks)) long ready.nodes-sound ready.factor_most_lem ready.weighable)
+      (fitting-sound (block_of ks cs fs ts) c marks [] w₀ pre.1 (no_sinks (length ks)) pre.2 pre.0.nodes-sound pre.0.factor_most_lem pre.0.weighable)
 
   pub search_lent : ListsLong ks cs c
   search_lent = fitted-lent ks cs fs ts search_fits
 
   pub search_marks : (length ks ≤ 4096) × (length ks ≤ length marks) × (3 * length ks ≤ length w₀)
-  search_marks = (search_fits.few, search_fits.marks_long, omega arith)
+  search_marks = (search_fits.few, search_fits.marks_long, omega (arith, pre.2))
 
   module _ {w₁ : List ℕ} {count : ℕ} (t : TreeMarked (length ks) marks w₀ w₁ count) where
     pub search_ready : RunReady (graph_of ks fs ts) (clamped_price ks cs c) false w₁ count 0
@@ -109,18 +109,18 @@ module _ (ks cs fs ts : List ℕ) (c : Congestion) (marks w₀ : List ℕ) (soun
       still-long = r.onward.long ∙ t.long
 
       pub search_room : (length ks ≤ 8 * length ks) × (8 * length ks ≤ length w₂)
-      search_room = (omega arith, omega (arith, still-long))
+      search_room = (omega arith, omega (arith, still-long, pre.2))
 
       -- clamped prices are the prices
       same-prices : distances (block_of ks cs fs ts) (clamped_price ks cs c) marks ≡ distances (block_of ks cs fs ts) (price_at (block_of ks cs fs ts) c) marks
       same-prices =
           distances-price (block_of ks cs fs ts) (clamped_price ks cs c) (price_at (block_of ks cs fs ts) c)
-          (price-clamped (block_of ks cs fs ts) c marks [] w₀ sound (no_sinks (length ks)) long ready.nodes-sound ready.factor_most_lem ready.weighable) marks
+          (price-clamped (block_of ks cs fs ts) c marks [] w₀ pre.1 (no_sinks (length ks)) pre.2 pre.0.nodes-sound pre.0.factor_most_lem pre.0.weighable) marks
 
       first_part : take (length ks) w₂ ≡ distances (block_of ks cs fs ts) (price_at (block_of ks cs fs ts) c) marks
       first_part =
           let found : List ℕ = distances (graph_of ks fs ts) (clamped_price ks cs c) marks in
-          let count : length (take (length ks) w₂) ≡ length ks = length-take-le (length ks) w₂ (omega (arith, still-long)) in
+          let count : length (take (length ks) w₂) ≡ length ks = length-take-le (length ks) w₂ (omega (arith, still-long, pre.2)) in
           let all : length (distances (graph_of ks fs ts) (clamped_price ks cs c) marks) ≡ length ks = length-distances (graph_of ks fs ts) (clamped_price ks cs c) marks in
           ext_get_or 0 (take (length ks) w₂) (distances (graph_of ks fs ts) (clamped_price ks cs c) marks) (count ∙ sym all)
           (λ i l.
