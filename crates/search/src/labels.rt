@@ -23,7 +23,8 @@ pub const FAR: u64 = 18446744073709551615;
 // No label yet on a goal; elsewhere it is FAR. Every label is below both.
 pub const GOAL: u64 = 18446744073709551614;
 
-// How far the labels have spread: the least label of a goal, FAR where none has one, and how many nodes wait.
+// How far the labels have spread: the least label of a goal, FAR where none has one, and how many nodes wait. It is no Option, since FAR is
+// above every label: one comparison asks whether a goal has a label and how near it is.
 #[derive(Clone, Copy)]
 pub struct Reach {
     pub best: u64,

@@ -1,14 +1,15 @@
 -- A whole search: the tree is marked, its labels spread until nothing waits, and they are the distances of all nodes.
 -- Assumes nothing.
 use mathlib.Core.Bool.{true, false}
-use mathlib.Core.List.{List, [], ◌∷◌, ◌++◌}
+use mathlib.Core.List.{List, [], ◌++◌}
 use mathlib.Core.Logic.{⊎_elim, inl}
 use mathlib.Core.Path.{◌≡◌, refl, sym, ◌∙◌}
-use Prim.Native.Nat.{ℕ, zero, suc, ◌+◌, ◌-◌, ◌*◌, ◌≤◌, ◌<◌}
-use native.Mathlib.Nat.{not-suc-le-zero, le_of_suc-le-suc}
+use Prim.Native.Nat.{ℕ, ◌+◌, ◌-◌, ◌*◌, ◌≤◌, ◌<◌}
+use native.Mathlib.Nat.{not-suc-le-zero}
 use native.Mathlib.Omega.{arith}
 use lib.ListN.{length, get_or, take, drop, replicate}
 use lib.Seq.{length-take-le, get_or-take, ext_get_or}
+use Rattle.std.proofs.lemmas.Grind.{get_or_default_zero}
 use Rattle.price.specs.Lists.{every}
 use Rattle.price.proofs.TestLaws.{le_or_lt, never_true, true≢false}
 use Rattle.price.proofs.ListLaws.{drop-same}
@@ -31,12 +32,6 @@ use Rattle.search.proofs.HaltLaws.{Halted, OpenAt}
 use Rattle.search.proofs.PriceableLaws.{fitted}
 use Rattle.search.proofs.JoinLaws.{fitted-lent, join_ready, join_halts}
 use Rattle.search.proofs.PathReplyLaws.{fitting-sound, price-clamped}
-
--- within a list it does not matter what is read past its end
-within : (l : List ℕ) (i d d' : ℕ) → i < length l → get_or l i d ≡ get_or l i d'
-within [] i d d' h = absurd (not-suc-le-zero h)
-within (x ∷ xs) zero d d' h = refl
-within (x ∷ xs) (suc i) d d' h = within xs i d d' (le_of_suc-le-suc h)
 
 no_sinks : (n : ℕ) → sink_list_sound n [] ≡ true
 unfolding sink_list_sound every
@@ -125,7 +120,7 @@ module _ {ks cs fs ts : List ℕ} {c : Congestion} {marks : List ℕ} (w₀ : Li
           ext_get_or 0 (take (length ks) w₂) (distances (graph_of ks fs ts) (clamped_price ks cs c) marks) (count ∙ sym all)
           (λ i l.
           let h : i < length ks = omega arith in
-          get_or-take (length ks) w₂ i 0 h ∙ final i h ∙ within (distances (graph_of ks fs ts) (clamped_price ks cs c) marks) i far 0 (omega arith))
+          get_or-take (length ks) w₂ i 0 h ∙ final i h ∙ get_or_default_zero (distances (graph_of ks fs ts) (clamped_price ks cs c) marks) i far (omega arith))
           ∙ distances-same ks cs fs ts (clamped_price ks cs c) marks ∙ same-prices
 
       -- past 8 × nodes nothing was written
