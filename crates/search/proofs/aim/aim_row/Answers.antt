@@ -1,4 +1,4 @@
--- `search::aim::aim_row` meets its contract. The invariant: the row has been looked at up to place e, and r has the least distances. The measure is what is left of the row.
+-- `search::aim::aim_row` meets its contract. The invariant: the row has been looked at up to place e, and r has the least distances.
 -- Assumes nothing.
 use native.Mathlib.Omega.{arith}
 use Rattle.price.proofs.TimedLaws.{weighed-low}
@@ -32,7 +32,7 @@ pub bounds-edge_target-e : goal.bounds-edge_target-e
 bounds-edge_target-e c = let t = c.row_place-to.ensures in let l = c.loop-e-test.true in omega arith
 
 pub overflow_cast-v : goal.overflow_cast-v
-overflow_cast-v c = omega (arith, c.type_inv.edge_target c.loop-e.e)
+overflow_cast-v c = omega (arith, c.type_inv.tables.edge_target c.loop-e.e)
 
 pub offset_bounds-work-v : goal.offset_bounds-work-v
 offset_bounds-work-v c = let f = c.requires.0.few in let h = c.if-v-n.true in omega arith
@@ -48,14 +48,14 @@ clamped_price-p-requires c = record { lists_long = c.requires.0; v_in_bounds = c
 
 pub overflow_add-d : goal.overflow_add-d
 overflow_add-d c =
-    let most = weighed-low c.args.weighting in
+    let most = weighed-low c.args.prices.now.weighting in
     let p = c.clamped_price-p.ensures.1 in
     let near = c.requires.3.near in
     record { fits = omega arith }
 
 pub aim-r-requires : goal.aim-r-requires
 aim-r-requires c =
-    let most = weighed-low c.args.weighting in
+    let most = weighed-low c.args.prices.now.weighting in
     let p = c.clamped_price-p.ensures.1 in
     let ready = c.requires.3 in
     let to = c.row_place-to.ensures in

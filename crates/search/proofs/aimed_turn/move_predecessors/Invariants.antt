@@ -6,6 +6,3 @@ use Rattle.search.proofs.aimed_turn.move_predecessors.Given as goal
 
 abbrev pub invariant-loop-v : goal.invariant-loop-v
 invariant-loop-v l = Moving l.n l.initial.work l.work l.v
-
-abbrev pub decreases-loop-v : goal.decreases-loop-v
-decreases-loop-v l = l.n - l.v

@@ -1,4 +1,4 @@
--- `search::estimate::give_before` meets its contract. The invariant: the places of v's row below e have been passed. The measure is how many are left.
+-- `search::estimate::give_before` meets its contract. The invariant: the places of v's row below e have been passed.
 -- Assumes nothing.
 use Prim.Native.Nat.{◌*◌, ◌≤◌, ◌<◌}
 use native.Mathlib.Omega.{arith}
@@ -17,7 +17,7 @@ use Rattle.search.proofs.estimate.give_before.Goals as goal
 
 -- what has been given so far, from the nodes that wait at the entry
 some : (c : At-loop-e)
-    → SomeGiven (graph_of c.args.kind.now c.args.first_back.now c.args.back_source.now) (clamped_base c.args.kind.now)
+    → SomeGiven (graph_of c.args.kind.now c.args.back.now.first_back.now c.args.back.now.back_source.now) (clamped_base c.args.kind.now)
     c.args.scale c.args.v c.args.estimate c.args.work.now c.loop-e.work c.args.head.now c.loop-e.head
     c.args.start.count c.loop-e.f.count c.requires.1.lined
 some c = (c.loop-e.invariant.0 c.requires.1.lined).some
@@ -33,7 +33,7 @@ loop-e-init c =
     (λ l. row_begin c.requires.1.queue c.row_place-e.ensures, c.requires.1.lacking_is)
 
 pub overflow_cast-u : goal.overflow_cast-u
-overflow_cast-u c = omega (arith, c.type_inv.back_source c.loop-e.e)
+overflow_cast-u c = omega (arith, c.type_inv.back.back_source c.loop-e.e)
 
 pub bounds-work-n : goal.bounds-work-n
 bounds-work-n c =

@@ -1,4 +1,4 @@
--- `search::estimate::give_sinks` meets its contract. The invariant: the unjoined sinks at places below i have estimate 0. The measure is how many sinks are left.
+-- `search::estimate::give_sinks` meets its contract. The invariant: the unjoined sinks at places below i have estimate 0.
 -- Assumes nothing.
 use mathlib.Core.List.{[]}
 use mathlib.Core.Path.{sym, ◌∙◌}

@@ -1,4 +1,4 @@
--- `search::estimate::give_sinks` meets its contract. The invariant: the unjoined sinks at places below i have estimate 0. The measure is how many sinks are left.
+-- `search::estimate::give_sinks` meets its contract. The invariant: the unjoined sinks at places below i have estimate 0.
 -- Assumes nothing.
 use mathlib.Core.List.{List}
 use mathlib.Core.Path.{◌≡◌}
@@ -11,7 +11,7 @@ use Rattle.search.proofs.estimate.give_sinks.Given as goal
 
 abbrev pub invariant-loop-i : goal.invariant-loop-i
 invariant-loop-i l =
-    ((sources : List ℕ) → SinksGiven (graph_of l.kind l.first_back sources) (clamped_base l.kind) l.scale l.in_tree l.sinks l.initial.work l.work l.head l.f.count l.i)
+    ((sources : List ℕ) → SinksGiven (graph_of l.kind l.back.first_back.now sources) (clamped_base l.kind) l.scale l.in_tree l.sinks l.initial.work l.work l.head l.f.count l.i)
     × (l.f.lacking ≡ lacking_in (length l.kind) l.work)
 
 abbrev pub decreases-loop-i : goal.decreases-loop-i
