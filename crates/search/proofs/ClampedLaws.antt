@@ -4,7 +4,7 @@ use mathlib.Core.Bool.{true}
 use mathlib.Core.List.{List}
 use mathlib.Core.Logic.{⊎_elim}
 use mathlib.Core.Path.{◌≡◌, sym, ◌∙◌, ap}
-use Prim.Native.Nat.{ℕ, ◌≤◌, ◌<◌}
+use Prim.Native.Nat.{ℕ, ◌≤◌, ◌<◌, min}
 use native.Mathlib.Nat.{le_trans}
 use native.Mathlib.Omega.{arith}
 use lib.ListN.{get_or}
@@ -49,6 +49,15 @@ module _ (low high x : ℕ) where
       ⊎_elim (λ (h : x ≤ high). rw (clamped_in l h) h) (λ (h : high < x). rw (clamped_high l h) (omega arith)) (le_or_lt x high))
       (λ (l : x < low). rw (clamped_low l) b)
       (le_or_lt low x)
+
+-- as the code has it: `x.min(high)` and `x.clamp(low, high)`
+pub clamped-min : (high x : ℕ) → clamped 0 high x ≡ min x high
+unfolding clamped
+clamped-min high x =
+    ⊎_elim
+    (λ (h : x ≤ high). clamped_in 0 high x (omega arith) h ∙ omega arith)
+    (λ (h : high < x). clamped_high 0 high x (omega arith) h ∙ omega arith)
+    (le_or_lt x high)
 
 -- a base cost is at most the largest
 pub base_light : (kinds : List ℕ) (v : ℕ) → clamped_base kinds v ≤ base_most

@@ -1,15 +1,14 @@
 -- `search::labels::matters` meets its contract.
 -- Assumes nothing.
 use native.Mathlib.Omega.{arith}
-use borrow.Author.Tests.{eqb-false}
-use Rattle.price.proofs.TestLaws.{true≢false}
+use borrow.Author.Tests.{eqb-false, ltb-false}
 use Rattle.search.proofs.labels.matters.Goals as goal
 
-pub returns-then-n-w : goal.returns-then-n-w
-returns-then-n-w c = λ e h. absurd (let l = c.if-n-w.true in omega arith)
+pub returns-else-w-tables : goal.returns-else-w-tables
+returns-else-w-tables c = λ e h. absurd (omega arith)
 
-pub returns-then-first_edge-w : goal.returns-then-first_edge-w
-returns-then-first_edge-w c = λ e. absurd (true≢false e)
+pub returns-then-tables-w : goal.returns-then-tables-w
+returns-then-tables-w c = λ e h. absurd (omega (arith, ltb-false _ _ e))
 
-pub returns : goal.returns
-returns c = λ e h. record { no_edges = c.if-first_edge-w.false; no_goal = eqb-false _ _ e }
+pub returns-else-tables-w : goal.returns-else-tables-w
+returns-else-tables-w c = λ e h. record { no_edges = c.if-tables-w.false; no_goal = eqb-false _ _ e }

@@ -15,7 +15,7 @@ clamped_price-p-requires c = record { lists_long = c.requires.lent; v_in_bounds 
 
 pub overflow_add-d : goal.overflow_add-d
 overflow_add-d c =
-    let most = weighed-low c.args.weighting in
+    let most = weighed-low c.args.prices.now.weighting in
     let p = c.clamped_price-p.ensures.1 in
     let r = c.requires.near in
     omega arith

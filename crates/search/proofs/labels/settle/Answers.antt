@@ -29,7 +29,7 @@ pub bounds-edge_target-e : goal.bounds-edge_target-e
 bounds-edge_target-e c = let t = c.row_place-to.ensures in let l = c.loop-e-test.true in omega arith
 
 pub overflow_cast-v : goal.overflow_cast-v
-overflow_cast-v c = omega (arith, c.type_inv.edge_target c.loop-e.e)
+overflow_cast-v c = omega (arith, c.type_inv.tables.now.edge_target c.loop-e.e)
 
 pub relax-r-requires : goal.relax-r-requires
 relax-r-requires c =

@@ -9,7 +9,7 @@ use Rattle.search.proofs.labels.settle.Given as goal
 
 abbrev pub invariant-loop-e : goal.invariant-loop-e
 invariant-loop-e l =
-    LabelRowSoFar (graph_of l.kind l.first_edge l.edge_target) (clamped_price l.kind l.capacity (weighed_congestion l.weighting l.delay l.factor l.history l.others)) l.goals l.u l.initial.work l.work l.e l.initial.r.count l.r.count l.initial.r.best l.r.best
+    LabelRowSoFar (graph_of l.tables.kind.now l.tables.first_edge.now l.tables.edge_target.now) (clamped_price l.tables.kind.now l.tables.capacity.now (weighed_congestion l.prices.weighting l.prices.delay.now l.prices.factor l.prices.history.now l.prices.others.now)) l.goals l.u l.initial.work l.work l.e l.initial.r.count l.r.count l.initial.r.best l.r.best
 
 abbrev pub decreases-loop-e : goal.decreases-loop-e
 decreases-loop-e l = l.to - l.e

@@ -12,7 +12,7 @@ use Rattle.search.proofs.labels.settle_all.Given as goal
 
 abbrev pub invariant-loop-r : goal.invariant-loop-r
 invariant-loop-r l =
-    LabelsRunning (graph_of l.kind l.first_edge l.edge_target) (clamped_price l.kind l.capacity (weighed_congestion l.weighting l.delay l.factor l.history l.others)) l.goals l.initial.work l.work l.r.best l.r.count
+    LabelsRunning (graph_of l.tables.kind.now l.tables.first_edge.now l.tables.edge_target.now) (clamped_price l.tables.kind.now l.tables.capacity.now (weighed_congestion l.prices.weighting l.prices.delay.now l.prices.factor l.prices.history.now l.prices.others.now)) l.goals l.initial.work l.work l.r.best l.r.count
 
 abbrev pub decreases-loop-r : goal.decreases-loop-r
-decreases-loop-r l = 2 * bare_count (length l.kind) l.work + l.r.count
+decreases-loop-r l = 2 * bare_count (length l.tables.kind.now) l.work + l.r.count
