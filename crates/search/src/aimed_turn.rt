@@ -155,9 +155,7 @@ fn move_predecessors(work: &mut [u64], n: usize)
     requires { 8 * n ≤ length work.old }
     ensures { PredecessorsMoved n work.old work.new }
 {
-    for v in 0..n {
-        work[n + v] = work[4 * n + v];
-    }
+    work.copy_within(4 * n..5 * n, n);
 }
 
 // Leaves the path to the joined sink at the beginning of the work slice, and 0 in the rest of it.
