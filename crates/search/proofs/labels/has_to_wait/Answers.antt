@@ -5,8 +5,3 @@ use Rattle.search.proofs.labels.has_to_wait.Goals as goal
 
 pub returns-then-goals : goal.returns-then-goals
 returns-then-goals c = λ e k a b l t. (c.if-goals.true, c.leads_on.ensures e k a b l t)
-
-pub returns-else-goals : goal.returns-else-goals
-returns-else-goals c =
-    let t = c.args.tables.now in
-    idle_empty _ t.first_edge.now t.edge_target.now c.args.goals c.args.work.now c.args.v

@@ -4,12 +4,6 @@ use Rattle.price.proofs.TestLaws.{true≢false}
 use Rattle.search.proofs.labels.RelaxLaws.{nowhere_begin, nowhere_more, nowhere_end}
 use Rattle.search.proofs.labels.leads_on.Goals as goal
 
-pub loop-e-init : goal.loop-e-init
-loop-e-init c = nowhere_begin
-
-pub returns-then-matters : goal.returns-then-matters
-returns-then-matters c = λ e. absurd (true≢false e)
-
 pub loop-e-preserved : goal.loop-e-preserved
 loop-e-preserved c = nowhere_more c.loop-e.invariant (c.matters.ensures c.if-matters.false)
 

@@ -18,6 +18,3 @@ returns-then-old-eq-GOAL c = record {
       (λ (l : c.args.best < c.args.d). inl (omega arith))
       (le_or_lt c.args.d c.args.best);
 }
-
-pub returns-else-old-eq-GOAL : goal.returns-else-old-eq-GOAL
-returns-else-old-eq-GOAL c = record { less = le_refl _; least = λ e. absurd (c.if-old-eq-GOAL.false e); some = inl refl }

@@ -3,16 +3,13 @@
 -- Assumes nothing.
 use Prim.Native.Nat.{◌+◌, ◌*◌}
 use lib.ListN.{length}
-use Rattle.search.specs.Block.{graph_of}
-use Rattle.search.specs.Turn.{weighed_congestion}
-use Rattle.search.specs.Clamped.{clamped_price}
+use Rattle.search.specs.Lent.{graph_in, price_read}
 use Rattle.search.specs.Spread.{bare_count}
 use Rattle.search.proofs.SpreadRun.{LabelsRunning}
 use Rattle.search.proofs.labels.settle_all.Given as goal
 
 abbrev pub invariant-loop-r : goal.invariant-loop-r
-invariant-loop-r l =
-    LabelsRunning (graph_of l.tables.kind.now l.tables.first_edge.now l.tables.edge_target.now) (clamped_price l.tables.kind.now l.tables.capacity.now (weighed_congestion l.prices.weighting l.prices.delay.now l.prices.factor l.prices.history.now l.prices.others.now)) l.goals l.initial.work l.work l.r.best l.r.count
+invariant-loop-r l = LabelsRunning (graph_in l.tables) (price_read l.tables l.prices) l.goals l.initial.work l.work l.r.best l.r.count
 
 abbrev pub decreases-loop-r : goal.decreases-loop-r
 decreases-loop-r l = 2 * bare_count (length l.tables.kind.now) l.work + l.r.count
