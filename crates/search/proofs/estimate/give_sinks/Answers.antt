@@ -62,7 +62,7 @@ loop-sink-preserved c =
       | else-s-n w ↦
           rw (w.work-is, w.head-is, w.f-is) (
             λ sources.
-            sinks_passed (inv.0 sources)
+                sinks_passed (inv.0 sources)
                 (elim w.else-s-n.branch [
                   | else-s-n-via-then-s-n+then-in_tree-s-ne1+else-work-n w' ↦ λ h o. stands_zero (inv.0 sources) _ h w'.if-work-n.false
                   | else-s-n-via-then-s-n+else-in_tree-s-ne1 w' ↦ λ h o. absurd (true≢false (sym (in_the_tree _ _ w'.if-in_tree-s-ne1.false) ∙ o))
