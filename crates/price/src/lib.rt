@@ -86,6 +86,7 @@ pub fn plain_tuning() -> Tuning
 }
 
 // Each number of a tuning keeps its bounds.
+#[tactic(auto, unfolding(crate::specs::Tuning::tuning_sound))]
 pub fn tuning_sound(g: Tuning) -> bool
     ensures { result ≡ tuning_sound g }
 {
@@ -153,6 +154,7 @@ fn historic_cost(n: Numbers) -> u64
 }
 
 // The price of a node at these numbers. 13 names the first of the five that is beyond its bounds.
+#[tactic(auto, unfolding(crate::specs::Replies::price_reply))]
 pub fn price(n: Numbers) -> Result<u64, BadNumber>
     ensures { price_reply_of result ≡ price_reply n.kind n.factor n.others n.capacity n.history }
 {
