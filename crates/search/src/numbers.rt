@@ -14,6 +14,7 @@ use price::Weighting;
 const OTHERS_MOST: u16 = 511;
 
 // The history, others and tree mark of node v are there and within their bounds.
+#[tactic(auto, unfolding(crate::specs::Replies::node_sound))]
 fn node_sound(prices: &Prices, in_tree: &[u8], v: usize) -> bool
     ensures { result ≡ node_sound (congestion_in prices.now) in_tree.now v }
 {
@@ -27,6 +28,7 @@ fn node_sound(prices: &Prices, in_tree: &[u8], v: usize) -> bool
 }
 
 // The lowest node that is not sound, n where each is.
+#[tactic(auto, unfolding(crate::specs::Replies::bad_node))]
 fn bad_node(n: usize, prices: &Prices, in_tree: &[u8]) -> usize
     ensures { result ≡ bad_node n (congestion_in prices.now) in_tree.now }
 {
@@ -48,8 +50,8 @@ fn histories_sound(n: usize, most: u32, history: &[u32]) -> bool
     }
     let mut fine = true;
     for v in 0..n {
-        fine = if history[v] < 1 { false } else { fine };
-        fine = if most < history[v] { false } else { fine };
+        fine &= 1 <= history[v];
+        fine &= history[v] <= most;
     }
     fine
 }
@@ -63,7 +65,7 @@ fn others_sound(n: usize, others: &[u16]) -> bool
     }
     let mut fine = true;
     for v in 0..n {
-        fine = if OTHERS_MOST < others[v] { false } else { fine };
+        fine &= others[v] <= OTHERS_MOST;
     }
     fine
 }
@@ -77,12 +79,13 @@ fn marks_sound(n: usize, in_tree: &[u8]) -> bool
     }
     let mut fine = true;
     for v in 0..n {
-        fine = if 1 < in_tree[v] { false } else { fine };
+        fine &= in_tree[v] <= 1;
     }
     fine
 }
 
 // Each node's history, others and tree mark is there and within its bounds.
+#[tactic(auto, unfolding(crate::specs::Replies::bad_node, crate::specs::Replies::node_sound))]
 fn lists_sound(n: usize, prices: &Prices, in_tree: &[u8]) -> bool
     ensures { result ≡ leb n (bad_node n (congestion_in prices.now) in_tree.now) }
 {
@@ -106,6 +109,7 @@ fn bad_criticality(weighting: Weighting) -> bool
 }
 
 // The first refusal that is due once the tables keep their rules.
+#[tactic(auto, unfolding(crate::specs::Replies::refusal_of))]
 pub fn first_refusal(
     n: usize,
     prices: &Prices,
