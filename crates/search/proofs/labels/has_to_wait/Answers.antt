@@ -5,8 +5,3 @@ use Rattle.search.proofs.labels.has_to_wait.Goals as goal
 
 pub returns-then-goals : goal.returns-then-goals
 returns-then-goals c = λ e k a b l t. (c.if-goals.true, c.leads_on.ensures e k a b l t)
-
-pub returns : goal.returns
-returns c =
-    let entry = c.args in
-    idle_empty entry.n entry.first_edge.now entry.edge_target.now entry.goals entry.work.now entry.v
