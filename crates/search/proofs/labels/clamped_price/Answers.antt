@@ -1,6 +1,5 @@
 -- `search::labels::clamped_price` meets its contract: the price takes every number that is clamped within its bounds.
 -- Assumes nothing.
-use native.Mathlib.Nat.{le_trans}
 use Rattle.search.specs.Lent.{congestion_in}
 use Rattle.search.proofs.ClampedLaws.{clamped_answer}
 use Rattle.search.proofs.labels.clamped_price.Goals as goal
