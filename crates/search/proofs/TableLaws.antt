@@ -7,7 +7,7 @@
 --     delays-                           table 9
 --     with-delays-, with-sinks-         the lowest faulty table, delays and sinks counted
 -- Assumes nothing.
-use mathlib.Core.Bool.{Bool, true, false, not, ◌&&◌}
+use mathlib.Core.Bool.{Bool, true, false, not}
 use mathlib.Core.List.{List, [], ◌∷◌}
 use mathlib.Core.Path.{◌≡◌, refl, sym, ◌∙◌, ap}
 use Prim.Native.Nat.{ℕ, suc, ◌+◌, ◌-◌, ◌≤◌, ◌<◌}
@@ -28,7 +28,7 @@ use Rattle.search.specs.Tables.{kinds_sound, capacities_sound, first_edges_sound
 use Rattle.search.specs.Turn.{Congestion}
 use Rattle.search.specs.Replies.{sinks_most, sink_list_sound, faulty_delays, faulty_with_delays, faulty_with_sinks}
 use Rattle.search.proofs.BlockLaws.{faulty_of}
-use Rattle.search.proofs.KeptLaws.{both_is, both_alone, every_all}
+use Rattle.search.proofs.KeptLaws.{both_alone, every_all}
 
 -- ---- table 1
 
@@ -52,8 +52,7 @@ capacity_byte : (cs : List ℕ) → ((i : ℕ) → get_or cs i 0 ≤ capacity_mo
 unfolding every
 capacity_byte [] bytes = refl
 capacity_byte (c ∷ cs) bytes =
-    rw (le-leb c capacity_most (bytes 0), both_alone (leb 1 c)) (both_is (leb 1 c) (every capacity_sound cs))
-    ∙ ap (λ r. leb 1 c && r) (capacity_byte cs (λ i. bytes (suc i)))
+    rw (le-leb c capacity_most (bytes 0), both_alone (leb 1 c)) (ap (both (leb 1 c)) (capacity_byte cs (λ i. bytes (suc i))))
 
 pub capacities_each : (n : ℕ) (cs : List ℕ) → length cs ≡ n → ((i : ℕ) → get_or cs i 0 ≤ capacity_most) → capacities_sound n cs ≡ list_all (λ c. leb 1 c) cs
 unfolding capacities_sound

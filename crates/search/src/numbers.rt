@@ -28,7 +28,6 @@ fn node_sound(prices: &Prices, in_tree: &[u8], v: usize) -> bool
 }
 
 // The lowest node that is not sound, n where each is.
-#[tactic(auto, unfolding(crate::specs::Replies::bad_node))]
 fn bad_node(n: usize, prices: &Prices, in_tree: &[u8]) -> usize
     ensures { result ≡ bad_node n (congestion_in prices.now) in_tree.now }
 {
@@ -42,6 +41,7 @@ fn bad_node(n: usize, prices: &Prices, in_tree: &[u8]) -> usize
 
 // Each node's history is there, from 1 to `most`. This loop and the next two go over one list each and never leave early: so they are
 // compiled to vector code.
+#[tactic(auto, using(crate::proofs::PassLaws::history_short, crate::proofs::PassLaws::history_next))]
 fn histories_sound(n: usize, most: u32, history: &[u32]) -> bool
     ensures { result ≡ all_below n (history_bounded most history.now) }
 {
@@ -57,6 +57,7 @@ fn histories_sound(n: usize, most: u32, history: &[u32]) -> bool
 }
 
 // Each node's others is there and within its bound.
+#[tactic(auto, using(crate::proofs::PassLaws::bounded_short, crate::proofs::PassLaws::bounded_next))]
 fn others_sound(n: usize, others: &[u16]) -> bool
     ensures { result ≡ all_below n (bounded others_most others.now) }
 {
@@ -71,6 +72,7 @@ fn others_sound(n: usize, others: &[u16]) -> bool
 }
 
 // Each node's tree mark is there and 0 or 1.
+#[tactic(auto, using(crate::proofs::PassLaws::bounded_short, crate::proofs::PassLaws::bounded_next))]
 fn marks_sound(n: usize, in_tree: &[u8]) -> bool
     ensures { result ≡ all_below n (bounded 1 in_tree.now) }
 {
@@ -85,7 +87,7 @@ fn marks_sound(n: usize, in_tree: &[u8]) -> bool
 }
 
 // Each node's history, others and tree mark is there and within its bounds.
-#[tactic(auto, unfolding(crate::specs::Replies::bad_node, crate::specs::Replies::node_sound))]
+#[tactic(auto, using(crate::proofs::PassLaws::lists_all))]
 fn lists_sound(n: usize, prices: &Prices, in_tree: &[u8]) -> bool
     ensures { result ≡ leb n (bad_node n (congestion_in prices.now) in_tree.now) }
 {
