@@ -25,7 +25,7 @@ pub const GOAL: u64 = 18446744073709551614;
 
 // How far the labels have spread: the least label of a goal, FAR where none has one, and how many nodes wait. It is no Option, since FAR is
 // above every label: one comparison asks whether a goal has a label and how near it is.
-#[derive(Clone, Copy)]
+#[derive(Clone, Copy, Debug, PartialEq, Eq)]
 pub struct Reach {
     pub best: u64,
     pub count: usize,
