@@ -8,7 +8,7 @@ use borrow.Author.Tests.{le-leb}
 use Rattle.std.specs.Prelude.{Result, Ok, Err, IsErrAnd}
 use Rattle.search.specs.Lent.{tested}
 use Rattle.search.specs.Turn.{Congestion}
-use Rattle.search.specs.Replies.{refusal_of, search_refusal}
+use Rattle.search.specs.Replies.{refusal_of, refusal_numbers, search_refusal}
 use Rattle.search.specs.declared.BadTable.{BadTable}
 use Rattle.search.specs.declared.Refusal.{Refusal}
 use Rattle.search.specs.declared.Refusal.TheVariants as v
@@ -22,6 +22,11 @@ tested_bad zero e = absurd (let z : ◌≡◌ {A = ℕ} 0 1 = cc in omega arith)
 tested_bad (suc table) {bad} e =
     let same : record { table = suc table } ≡ bad = cc in
     (ap (λ (b : BadTable). b.table) same, omega arith)
+
+-- a refusal that is passed on
+pub passed_on : (r : Result (Unit {0}) Refusal) (refusal : Refusal) → IsErrAnd r (λ x. x ≡ refusal) → search_refusal r ≡ refusal_numbers refusal
+passed_on (Ok u) refusal is = absurd is
+passed_on (Err x) refusal is = rw is
 
 module _ (table n : ℕ) (c : Congestion) (marks : List ℕ) (entries : ℕ) where
   -- a faulty table is refused
