@@ -103,9 +103,6 @@ module _ {ks cs fs ts : List ℕ} {c : Congestion} {marks : List ℕ} (w₀ : Li
       still-long : length w₂ ≡ length w₀
       still-long = r.onward.long ∙ t.long
 
-      pub search_room : (length ks ≤ 8 * length ks) × (8 * length ks ≤ length w₂)
-      search_room = (omega arith, omega (arith, still-long, pre.2))
-
       -- clamped prices are the prices
       same-prices : distances (block_of ks cs fs ts) (clamped_price ks cs c) marks ≡ distances (block_of ks cs fs ts) (price_at (block_of ks cs fs ts) c) marks
       same-prices =
