@@ -8,7 +8,11 @@ use price::Weighting;
 pub fn history_bound(weighting: Weighting) -> u32
     ensures { result ≡ history_bound weighting }
 {
-    if weighting.timed { price::TIMED_HISTORY_MOST } else { price::HISTORY_MOST }
+    if weighting.timed {
+        price::TIMED_HISTORY_MOST
+    } else {
+        price::HISTORY_MOST
+    }
 }
 
 // The delay of node v; it is read only where it is weighed.

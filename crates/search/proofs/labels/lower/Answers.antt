@@ -1,7 +1,6 @@
 -- `search::labels::lower` meets its contract.
 -- Assumes nothing.
-use mathlib.Core.Path.{refl}
-use Rattle.search.specs.Spread.{lowered, stays}
+use Rattle.search.specs.Spread.{lowered}
 use Rattle.search.proofs.labels.lower.Goals as goal
 
 pub returns-then-u-w : goal.returns-then-u-w

@@ -2,11 +2,8 @@
 -- a label makes a bare node wait at most.
 -- Assumes nothing.
 use native.Mathlib.Omega.{arith}
-use Rattle.search.proofs.SpreadRun.{run_start, run_node, run_fits, run_early, run_take, run_settle, run_more, run_falls, run_end}
+use Rattle.search.proofs.SpreadRun.{run_node, run_fits, run_early, run_settle, run_more, run_falls, run_end}
 use Rattle.search.proofs.labels.settle_all.Goals as goal
-
-pub loop-r-init : goal.loop-r-init
-loop-r-init c = run_start c.requires.1
 
 pub bounds-work-u : goal.bounds-work-u
 bounds-work-u c = let i = c.loop-r.invariant in let n = run_node i c.loop-r-test.true in let h = i.spread.heap.long in omega arith
@@ -18,10 +15,6 @@ overflow_add-work c =
 
 pub returns-then-r-work : goal.returns-then-r-work
 returns-then-r-work c = run_early c.loop-r.invariant c.loop-r-test.true c.if-r-work.true
-
-pub take-requires : goal.take-requires
-take-requires c =
-    let h = run_take c.loop-r.invariant c.loop-r-test.true c.requires.0.few in record { heaped = h.0; n_bound = h.1 }
 
 pub settle-r-requires : goal.settle-r-requires
 settle-r-requires c =
