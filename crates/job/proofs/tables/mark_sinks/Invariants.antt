@@ -1,4 +1,4 @@
--- `table_tests::mark_sinks` meets its contract. The loop's invariant: the sinks passed are nodes, differ, were not marked, and now are.
+-- `tables::mark_sinks` meets its contract. The loop's invariant: the sinks passed are nodes, differ, were not marked, and now are.
 -- Assumes nothing.
 use Prim.Native.Nat.{◌-◌}
 use lib.ListN.{length}
@@ -7,6 +7,3 @@ use Rattle.job.proofs.tables.mark_sinks.Given as goal
 
 abbrev pub invariant-loop-i : goal.invariant-loop-i
 invariant-loop-i l = Marking l.n l.sinks l.initial.seen l.seen l.i
-
-abbrev pub decreases-loop-i : goal.decreases-loop-i
-decreases-loop-i l = length l.sinks - l.i
