@@ -125,18 +125,18 @@ passing-more i p here none long =
 
 -- ---- a test of tables as a result
 
-ok≢err : {bad : BadTable} → Ok tt ≡ Err bad → ⊥
-ok≢err e = true≢false (ap is_ok e)
+ok≢err : {bad : BadTable} {r : Result (Unit {0}) BadTable} → r ≡ Ok tt → r ≡ Err bad → ⊥
+ok≢err e f = true≢false (ap is_ok (sym e ∙ f))
 
 -- where none is refused
 pub none_first : {r : Result (Unit {0}) BadTable} (a : ℕ) → r ≡ tested a → r ≡ Ok tt → a ≡ 0
 none_first zero e f = refl
-none_first (suc k) e f = absurd (ok≢err (sym f ∙ e))
+none_first (suc k) e f = absurd (ok≢err f e)
 
 -- the first of two tables is refused
 pub first_refused : {r : Result (Unit {0}) BadTable} {bad : BadTable} (a b : ℕ) → r ≡ tested a → r ≡ Err bad → Err bad ≡ tested (choose (leb 1 a) a b)
-first_refused zero b e f = absurd (ok≢err (sym e ∙ f))
-first_refused (suc k) b e f = sym f ∙ e
+first_refused zero b e f = absurd (ok≢err e f)
+first_refused (suc k) b e f = rw (le-leb 1 (suc k) (omega arith)) (sym f ∙ e)
 
 pub first_passed : {r : Result (Unit {0}) BadTable} (a b : ℕ) → a ≡ 0 → r ≡ tested b → r ≡ tested (choose (leb 1 a) a b)
 first_passed a b none e = rw none e
@@ -204,7 +204,7 @@ named_table zero n work c marks =
     (unnamed (ltb (bad_node n c marks) n) _ _ refl
     (unnamed (ltb factor_most c.factor) _ _ refl
     (unnamed (bad_criticality c.weighting) _ _ refl refl))))
-named_table (suc table) n work c marks = refl
+named_table (suc table) n work c marks = rw (le-leb 1 (suc table) (omega arith))
 
 -- with no sinks and one entry of work memory every call is refused, for a table or for another reason
 module _ (b : Block) (w : Weighting) (ds : List ℕ) where
@@ -229,10 +229,10 @@ module _ (b : Block) (w : Weighting) (ds : List ℕ) where
   refused marks work short = rw (unfit marks work short) (named_table (faulty_with_sinks b priced []) (block.nodes b) (length work) priced marks ∙ ap tested no_sinks)
 
   pub named :
-      {r answered : Result (Option Joins) Refusal} {marks work left : List ℕ} → length work ≡ 1
+      {r answered : Result (Option Joins) Refusal} (marks work left : List ℕ) → length work ≡ 1
       → path_reply_of r left ≡ path_reply b priced marks [] work → r ≡ answered
       → table_named (search.path_refusal answered) ≡ tested (faulty_with_delays b priced)
-  named {marks = marks} {work = work} short e t = ap (λ a. table_named (search.path_refusal a)) (sym t) ∙ ap (λ a. table_named a.refusal) e ∙ refused marks work short
+  named marks work left short e t = ap (λ a. table_named (search.path_refusal a)) (sym t) ∙ ap (λ a. table_named a.refusal) e ∙ refused marks work short
 
 pub named_untimed : (b : Block) (ds : List ℕ) → faulty_with_delays b (weighed_congestion untimed ds 0 [] []) ≡ faulty_table b
 unfolding faulty_with_delays

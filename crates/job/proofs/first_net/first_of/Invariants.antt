@@ -1,7 +1,7 @@
 -- `first_net::first_of` meets its contract. The loop's invariant: no net passed has the source.
 -- Assumes nothing.
 use mathlib.Core.Path.{◌≡◌}
-use Prim.Native.Nat.{ℕ, ◌<◌}
+use Prim.Native.Nat.{ℕ, ◌<◌, ◌≤◌}
 use lib.ListN.{length, get_or}
 use Rattle.job.proofs.first_net.first_of.Given as goal
 
