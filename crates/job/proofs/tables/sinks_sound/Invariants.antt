@@ -1,7 +1,5 @@
 -- `tables::sinks_sound` meets its contract. The loop's invariant: every net passed keeps the rule, and no mark is left.
 -- Assumes nothing.
-use Prim.Native.Nat.{◌-◌}
-use lib.ListN.{length}
 use Rattle.job.proofs.NetTableLaws.{Passing}
 use Rattle.job.proofs.tables.sinks_sound.Given as goal
 
