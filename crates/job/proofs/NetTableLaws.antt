@@ -62,18 +62,6 @@ always_rises fs v end all =
     neighbours-all ltb fs (λ i l. lt-ltb (get_or fs i 0) (get_or fs (suc i) 0) (simp unary_clauses at (all (suc i) (omega arith) (omega arith))))
 
 module _ (n places : ℕ) (fs : List ℕ) where
-  pub firsts-length : (length fs ≡ n + 1 → ⊥) → first_sinks_sound n places fs ≡ false
-  unfolding first_sinks_sound
-  firsts-length h = rw (ne_eqb (length fs) (n + 1) h)
-
-  pub firsts_begin : length fs ≡ n + 1 → (get_or fs 0 0 ≡ 0 → ⊥) → first_sinks_sound n places fs ≡ false
-  unfolding first_sinks_sound
-  firsts_begin long h = rw (eq-eqb (length fs) (n + 1) long, ne_eqb (get_or fs 0 0) 0 h)
-
-  pub firsts-stay : length fs ≡ n + 1 → get_or fs 0 0 ≡ 0 → neighbours ltb fs ≡ false → first_sinks_sound n places fs ≡ false
-  unfolding first_sinks_sound
-  firsts-stay long first h = rw (eq-eqb (length fs) (n + 1) long, eq-eqb (get_or fs 0 0) 0 first, h)
-
   -- all but the last entry
   pub firsts-last : length fs ≡ n + 1 → get_or fs 0 0 ≡ 0 → neighbours ltb fs ≡ true → first_sinks_sound n places fs ≡ eqb (get_or fs n 0) places
   unfolding first_sinks_sound
@@ -82,10 +70,6 @@ module _ (n places : ℕ) (fs : List ℕ) where
 -- ---- table 7
 
 module _ (n : ℕ) (ss fs ts : List ℕ) where
-  pub nets_many : sinks_most < length ts → sinks_sound n ss fs ts ≡ false
-  unfolding sinks_sound
-  nets_many h = rw (lt-leb (length ts) sinks_most h)
-
   pub nets_bad : (i : ℕ) → i < length ss → net_sound n (get_or ss i 0) (sinks_between fs ts i) ≡ false → sinks_sound n ss fs ts ≡ false
   unfolding sinks_sound
   nets_bad i h bad =

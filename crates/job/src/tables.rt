@@ -93,6 +93,7 @@ fn net_sound(n: usize, from: u16, sinks: &[u16], seen: &mut [u8]) -> bool
 }
 
 // Table 7, once tables 5 and 6 keep their rules.
+#[tactic(auto, unfolding(crate::specs::Tables::sinks_sound))]
 fn sinks_sound(n: usize, source: &[u16], first_sink: &[u32], sink: &[u16]) -> bool
     requires n_le_nodes_most { n ≤ nodes_most }
     requires source_value { sources_sound n source.now ≡ true }

@@ -11,10 +11,6 @@ use Rattle.search.proofs.KeptLaws.{refused, passed}
 use Rattle.job.proofs.SinkMarkLaws.{free_source, free-below, unmarked_again}
 use Rattle.job.proofs.tables.net_sound.Goals as goal
 
-pub shape_of-seen-then-not-mark_sinks : goal.shape_of-seen-then-not-mark_sinks
-shape_of-seen-then-not-mark_sinks c =
-    c.mark_sinks.auto.seen ∙ length-set c.args.seen.now c.args.from 1
-
 pub returns-then-not-mark_sinks : goal.returns-then-not-mark_sinks
 returns-then-not-mark_sinks c =
     let within = free_source _ c.args.from _ c.args.seen.now c.requires.by_index (omega arith) in
@@ -27,17 +23,6 @@ pub unmark_sinks-requires : goal.unmark_sinks-requires
 unmark_sinks-requires c = λ i l.
     let free = passed c.mark_sinks.ensures.value (ap not c.if-not-mark_sinks.false) in
     omega (arith, free-below _ c.args.sinks.now _ free i l, c.mark_sinks.auto.seen, length-set c.args.seen.now c.args.from 1)
-
-pub bounds-seen-s-2 : goal.bounds-seen-s-2
-bounds-seen-s-2 c =
-    omega (arith, c.requires.n_in_bounds, c.unmark_sinks.auto.seen, c.mark_sinks.auto.seen, length-set c.args.seen.now c.args.from 1)
-
-pub shape_of-seen : goal.shape_of-seen
-shape_of-seen c =
-    length-set c.unmark_sinks.new.seen c.args.from 0
-    ∙ c.unmark_sinks.auto.seen
-    ∙ c.mark_sinks.auto.seen
-    ∙ length-set c.args.seen.now c.args.from 1
 
 pub returns : goal.returns
 returns c =
