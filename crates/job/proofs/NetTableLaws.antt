@@ -1,9 +1,9 @@
 -- How a pass over tables 5 to 10 decides their rules: by the entry that breaks one, or by every entry passed.
 --     sources-all, stays_at, always_rises, firsts-    tables 5 and 6
 --     net-answer, Passing, passing-, nets-            table 7
---     first_, none_first                              the lower of two tables that is refused
---     delays-                                         table 9, by what is refused of it and of the block
---     times_, block-few                               the lowest faulty table of all
+--     none_first                                      no table is refused
+--     times_                                          tables 9 and 10
+--     block-, nets_refused, times_last                the lowest faulty table of all
 --     named                                           tables 1 to 4 and 9, by what the cheapest path refuses
 -- Assumes nothing.
 use mathlib.Core.Bool.{Bool, true, false}
@@ -34,12 +34,13 @@ use Rattle.search.specs.Turn.{Congestion, weighed_congestion}
 use Rattle.search.specs.Replies.{work_needed, bad_node, too_many, bad_criticality, refusal_of, sinks_most, faulty_with_delays, faulty_with_sinks, fitting, path_reply_of, path_reply}
 use Rattle.search.proofs.PriceableLaws.{fitted}
 use Rattle.search.specs.Replies as search
-use Rattle.search.specs.declared.BadTable.{BadTable}
+use Rattle.search.specs.declared.BadTable as bad
 use Rattle.search.specs.declared.Joins.{Joins}
 use Rattle.search.specs.declared.Refusal.{Refusal}
+use Rattle.search.specs.declared.Refusal.TheVariants.{BadTable, ShortWork, BadNumber, TooLarge}
 use Rattle.search.proofs.BlockLaws.{sound_of, kinds-few}
 use Rattle.job.specs.Job.{Job, nodes, sinks_between, if_timed}
-use Rattle.job.specs.Tables.{nets_most, sources_sound, first_sinks_sound, net_sound, sinks_sound, faulty_nets, faulty_times, faulty_untimed, faulty_job}
+use Rattle.job.specs.Tables.{nets_most, sources_sound, first_sinks_sound, net_sound, sinks_sound, faulty_nets, criticalities_sound, faulty_times, faulty_untimed, faulty_job}
 use Rattle.job.specs.declared.Terms.{Terms}
 use Rattle.job.proofs.SinkMarkLaws.{Unmarked, unmarked_new}
 
@@ -109,20 +110,17 @@ passing-more i p here none long =
 
 -- ---- a test of tables as a result
 
-ok≢err : {bad : BadTable} {r : Result (Unit {0}) BadTable} → r ≡ Ok tt → r ≡ Err bad → ⊥
-ok≢err e f = true≢false (ap is_ok (sym e ∙ f))
+-- none is refused
+pub none_first : (a : ℕ) → Ok tt ≡ tested a → a ≡ 0
+none_first zero e = refl
+none_first (suc k) e = absurd (true≢false (ap is_ok e))
 
--- where none is refused
-pub none_first : {r : Result (Unit {0}) BadTable} (a : ℕ) → r ≡ tested a → r ≡ Ok tt → a ≡ 0
-none_first zero e f = refl
-none_first (suc k) e f = absurd (ok≢err f e)
+-- the first of two is refused
+first_refused : {refused : bad.BadTable} (a b : ℕ) → Err refused ≡ tested a → Err refused ≡ tested (choose (leb 1 a) a b)
+first_refused zero b e = absurd (true≢false (sym (ap is_ok e)))
+first_refused (suc k) b e = rw (le-leb 1 (suc k) (omega arith)) e
 
--- the first of two tables is refused
-pub first_refused : {r : Result (Unit {0}) BadTable} {bad : BadTable} (a b : ℕ) → r ≡ tested a → r ≡ Err bad → Err bad ≡ tested (choose (leb 1 a) a b)
-first_refused zero b e f = absurd (ok≢err e f)
-first_refused (suc k) b e f = rw (le-leb 1 (suc k) (omega arith)) (sym f ∙ e)
-
-pub first_passed : {r : Result (Unit {0}) BadTable} (a b : ℕ) → a ≡ 0 → r ≡ tested b → r ≡ tested (choose (leb 1 a) a b)
+first_passed : {r : Result (Unit {0}) bad.BadTable} (a b : ℕ) → a ≡ 0 → r ≡ tested b → r ≡ tested (choose (leb 1 a) a b)
 first_passed a b none e = rw none e
 
 -- ---- tables 9 and 10
@@ -133,11 +131,29 @@ unfolding faulty_times
 times_lent t n m ds cs =
     by_test t.timed (λ q. rw q) (λ q. rw q)
 
--- the delays are tested after a sound block
-module _ (b : Block) (ds : List ℕ) (sound : faulty_table b ≡ 0) where
-  pub delays-tested : faulty_with_delays b (weighed_congestion (record { timed = true; criticality = 0 }) ds 0 [] []) ≡ choose (delays_sound (block.nodes b) ds) 0 9
+-- the tests one after the other, where the block is sound
+module _ (b : Block) (t : Terms) (m : ℕ) (ds cs : List ℕ) (timed : t.timed ≡ true) (sound : faulty_table b ≡ 0) where
+  abbrev by_delays : ℕ
+  by_delays = faulty_with_delays b (weighed_congestion (record { timed = true; criticality = 0 }) ds 0 [] [])
+
+  by_sound : (kept : Bool) → delays_sound (block.nodes b) ds ≡ kept → by_delays ≡ choose kept 0 9
   unfolding faulty_with_delays
-  delays-tested = rw sound (by_test (delays_sound (block.nodes b) ds) (λ q. rw q) (λ q. rw q))
+  by_sound true q = rw (sound, q)
+  by_sound false q = rw (sound, q)
+
+  pub times_9 : {refused : bad.BadTable} → Err refused ≡ tested by_delays → Err refused ≡ tested (faulty_times t (block.nodes b) m ds cs)
+  unfolding faulty_times
+  times_9 e =
+      by_test (delays_sound (block.nodes b) ds)
+      (λ q. absurd (true≢false (sym (ap is_ok (e ∙ ap tested (by_sound true q))))))
+      (λ q. rw (timed, q) (e ∙ ap tested (by_sound false q)))
+
+  pub times_10 : (kept : Bool) → Ok tt ≡ tested by_delays → criticalities_sound m cs ≡ kept → tested (choose kept 0 10) ≡ tested (faulty_times t (block.nodes b) m ds cs)
+  unfolding faulty_times
+  times_10 kept e c =
+      by_test (delays_sound (block.nodes b) ds)
+      (λ q. rw (timed, q, c))
+      (λ q. absurd (true≢false (ap is_ok (e ∙ ap tested (by_sound false q)))))
 
 -- ---- the lowest of all tables
 
@@ -146,21 +162,21 @@ block-few b none = kinds-few b.kinds (sound_of b none).kinds_sound_lem
 
 -- the parts of a job one after the other
 module _ (j : Job) where
-  pub block_refused : {r : Result (Unit {0}) BadTable} {bad : BadTable} → r ≡ tested (faulty_table j.block) → r ≡ Err bad → Err bad ≡ tested (faulty_job j)
+  pub block_refused : {refused : bad.BadTable} → Err refused ≡ tested (faulty_table j.block) → Err refused ≡ tested (faulty_job j)
   unfolding faulty_job faulty_untimed
-  block_refused e f = first_refused _ _ (f ∙ first_refused _ _ e f) f
+  block_refused e = first_refused _ _ (first_refused _ _ e)
 
   module _ (sound : faulty_table j.block ≡ 0) where
     abbrev of_nets : ℕ
     of_nets = faulty_nets j.block.kinds j.sources j.first_sinks j.sinks j.terms
 
-    pub nets_refused : {r : Result (Unit {0}) BadTable} {bad : BadTable} → r ≡ tested of_nets → r ≡ Err bad → Err bad ≡ tested (faulty_job j)
+    pub nets_refused : {refused : bad.BadTable} → Err refused ≡ tested of_nets → Err refused ≡ tested (faulty_job j)
     unfolding faulty_job faulty_untimed
-    nets_refused e f = first_refused _ _ (first_passed _ _ sound e) f
+    nets_refused e = first_refused _ _ (first_passed _ _ sound e)
 
     -- of the two tables that are lent, what the job has
     pub times_last :
-        {r : Result (Unit {0}) BadTable} (ds cs : List ℕ) → of_nets ≡ 0 → j.delays ≡ if_timed j.terms ds → j.criticalities ≡ if_timed j.terms cs
+        {r : Result (Unit {0}) bad.BadTable} (ds cs : List ℕ) → of_nets ≡ 0 → j.delays ≡ if_timed j.terms ds → j.criticalities ≡ if_timed j.terms cs
         → r ≡ tested (faulty_times j.terms (nodes j) (length j.sinks) ds cs) → r ≡ tested (faulty_job j)
     unfolding faulty_job faulty_untimed
     times_last ds cs none d c e =
@@ -170,7 +186,7 @@ module _ (j : Job) where
 -- ---- the tables that the cheapest path tests, by its refusal
 
 -- the table that a refusal names
-abbrev pub table_named : List ℕ → Result (Unit {0}) BadTable
+abbrev pub table_named : List ℕ → Result (Unit {0}) bad.BadTable
 table_named [] = Ok tt
 table_named (k ∷ ks) = choose (eqb k 5) (Err (record { table = get_or ks 0 0 })) (Ok tt)
 
@@ -195,12 +211,15 @@ module _ (b : Block) (w : Weighting) (ds : List ℕ) where
   abbrev priced : Congestion
   priced = weighed_congestion w ds 0 [] []
 
+  abbrev asked : search.PathReply
+  asked = path_reply b priced [] [] (0 ∷ [])
+
   -- one entry is too few for any job
-  unfit : (marks work : List ℕ) → length work ≡ 1 → fitting b priced marks [] work ≡ false
-  unfit marks work short =
-      by_test (fitting b priced marks [] work)
+  unfit : fitting b priced [] [] (0 ∷ []) ≡ false
+  unfit =
+      by_test (fitting b priced [] [] (0 ∷ []))
       (λ q.
-      absurd (let f = fitted b priced marks [] work q in let some = f.some in let enough = f.enough in omega arith))
+      absurd (let f = fitted b priced [] [] (0 ∷ []) q in let some = f.some in let enough = f.enough in omega arith))
       (λ q. q)
 
   no_sinks : faulty_with_sinks b priced [] ≡ faulty_with_delays b priced
@@ -208,15 +227,23 @@ module _ (b : Block) (w : Weighting) (ds : List ℕ) where
   no_sinks =
       by_test (leb 1 (faulty_table b)) (λ q. rw q) (λ q. rw q)
 
-  refused : (marks work : List ℕ) → length work ≡ 1 → table_named (path_reply b priced marks [] work).refusal ≡ tested (faulty_with_delays b priced)
+  named : (r : Result (Option Joins) Refusal) {left : List ℕ} → path_reply_of r left ≡ asked → table_named (search.path_refusal r) ≡ tested (faulty_with_delays b priced)
   unfolding path_reply
-  refused marks work short = rw (unfit marks work short) (named_table (faulty_with_sinks b priced []) (block.nodes b) (length work) priced marks ∙ ap tested no_sinks)
+  named r e =
+      ap (λ a. table_named a.refusal) e
+      ∙ rw unfit (named_table (faulty_with_sinks b priced []) (block.nodes b) 1 priced [] ∙ ap tested no_sinks)
 
-  pub named :
-      {r answered : Result (Option Joins) Refusal} (marks work left : List ℕ) → length work ≡ 1
-      → path_reply_of r left ≡ path_reply b priced marks [] work → r ≡ answered
-      → table_named (search.path_refusal answered) ≡ tested (faulty_with_delays b priced)
-  named marks work left short e t = ap (λ a. table_named (search.path_refusal a)) (sym t) ∙ ap (λ a. table_named a.refusal) e ∙ refused marks work short
+  pub named_table_refused : {refusal : Refusal} {table : ℕ} {left : List ℕ} → refusal ≡ BadTable table → path_reply_of (Err refusal) left ≡ asked → Err (record { table = table }) ≡ tested (faulty_with_delays b priced)
+  named_table_refused {refusal} {table} f e = ap (λ a. table_named (search.refusal_numbers a)) (sym f) ∙ named (Err refusal) e
+
+  pub named_no_table : (refusal : Refusal) {left : List ℕ} → ((table : ℕ) → refusal ≡ BadTable table → ⊥) → path_reply_of (Err refusal) left ≡ asked → Ok tt ≡ tested (faulty_with_delays b priced)
+  named_no_table (BadTable table) other e = absurd (other table refl)
+  named_no_table (ShortWork needed) other e = named (Err (ShortWork needed)) e
+  named_no_table (BadNumber place) other e = named (Err (BadNumber place)) e
+  named_no_table (TooLarge n) other e = named (Err (TooLarge n)) e
+
+  pub named_none : (joins : Option Joins) {left : List ℕ} → path_reply_of (Ok joins) left ≡ asked → Ok tt ≡ tested (faulty_with_delays b priced)
+  named_none joins e = named (Ok joins) e
 
 pub named_untimed : (b : Block) (ds : List ℕ) → faulty_with_delays b (weighed_congestion untimed ds 0 [] []) ≡ faulty_table b
 unfolding faulty_with_delays

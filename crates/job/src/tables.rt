@@ -150,8 +150,11 @@ fn faulty_with_delays(tables: &Tables, weighting: Weighting, delay: &[u16]) -> R
         history: &[],
         others: &[],
     };
-    match search::cheapest_path(tables, &prices, &mut [0; 1], &[], &[]) {
-        Err(Refusal::BadTable(table)) => Err(BadTable { table }),
+    let Err(refusal) = search::cheapest_path(tables, &prices, &mut [0; 1], &[], &[]) else {
+        return Ok(());
+    };
+    match refusal {
+        Refusal::BadTable(table) => Err(BadTable { table }),
         _ => Ok(()),
     }
 }
