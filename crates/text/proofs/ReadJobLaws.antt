@@ -3,7 +3,7 @@
 use mathlib.Core.Bool.{Bool, true, false}
 use mathlib.Core.List.{List, [], ◌∷◌}
 use mathlib.Core.Logic.{⊎_elim}
-use mathlib.Core.Path.{◌≡◌, refl, sym, ◌∙◌, ap}
+use mathlib.Core.Path.{◌≡◌, refl, sym, ◌∙◌}
 use Prim.Native.Nat.{ℕ, suc, ◌+◌, ◌≤◌, ◌<◌}
 use native.Mathlib.Omega.{arith}
 use lib.ListN.{length, take}
@@ -15,8 +15,8 @@ use Rattle.search.specs.Replies.{sinks_most}
 use Rattle.job.specs.Job.{Job}
 use Rattle.job.specs.Tables.{exceeds}
 use Rattle.job.specs.declared.Terms.{Terms}
-use Rattle.text.specs.JobText.{Part, read_text}
-use Rattle.text.specs.ReadReplies.{Tables, ReadReply, not_read, refusal_numbers, lowest_short, short_times, short_untimed, short_table, written_over, tables_with, terms_numbers, job_numbers, stored_reply, reply_to, read_reply}
+use Rattle.text.specs.JobText.{read_text}
+use Rattle.text.specs.ReadReplies.{Tables, ReadReply, not_read, refusal_numbers, lowest_short, short_times, short_untimed, short_table, written_over, tables_with, terms_numbers, job_numbers, stored_reply, read_reply}
 use Rattle.text.specs.Steps.{row}
 use Rattle.text.specs.ReadSteps.{lowest_of_nine, RoomForAll, CountsWithin, job_taken, job_at, JobPlace, at_line, line_refusal, Over}
 use Rattle.core.specs.declared.result.Result.{Result}

@@ -7,7 +7,6 @@ use Rattle.search.specs.Tables.{edges_most}
 use Rattle.search.specs.Replies.{sinks_most}
 use Rattle.job.specs.Tables.{nets_most}
 use Rattle.job.specs.Job.{Job, job_of}
-use Rattle.job.specs.declared.Terms.{Terms}
 use Rattle.text.specs.JobText.{Part, part, stopped, Counts, NodeLists, node_lists, node_lines}
 use Rattle.text.specs.JobText.{edge_lists, edge_lines, NetLists, net_lists, net_lines}
 use Rattle.text.specs.ReadReplies.{Tables, tables_of}
