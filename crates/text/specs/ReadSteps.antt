@@ -1,6 +1,6 @@
 -- What the contracts of the reader's private functions say about whole tables.
 -- Assumes nothing.
-use Rattle.std.specs.Prelude.{Bool, Result, Ok, Err, List, [], ◌∷◌, ◌++◌, ◌≡◌, ℕ, ◌+◌, ◌≤◌, leb, length, take, drop}
+use Rattle.std.specs.Prelude.{Bool, Option, Some, None, Result, Ok, Err, List, [], ◌∷◌, ◌++◌, ◌≡◌, ℕ, ◌+◌, ◌≤◌, leb, length, take, drop}
 use Rattle.price.specs.Test.{choose}
 use Rattle.price.specs.Bounds.{nodes_most}
 use Rattle.search.specs.Tables.{edges_most}
@@ -18,6 +18,15 @@ use Rattle.text.specs.declared.head.HeadRead.{HeadRead}
 use Rattle.text.specs.declared.place.LineRefusal.{LineRefusal}
 use Rattle.text.specs.declared.place.LineFault.{LineFault}
 use Rattle.text.specs.declared.place.LineFault.TheVariants as lf
+
+-- a table that is too short by its number, which is 1 at least; 0 if each is long enough
+abbrev pub table_number : Option ℕ → ℕ
+table_number None = 0
+table_number (Some table) = table
+
+abbrev pub Named : Option ℕ → Type 0
+Named None = Unit {0}
+Named (Some table) = 1 ≤ table
 
 -- row 4 of tables 1 to 7 before that of 9 and 10
 abbrev pub lowest_of_nine : ℕ → ℕ → ℕ

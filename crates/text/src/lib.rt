@@ -6,7 +6,7 @@ ghost use Rattle.search.specs.Replies.{sinks_most};
 ghost use Rattle.price.specs.Bounds.{nodes_most};
 ghost use Rattle.price.specs.Test.{choose};
 ghost use Rattle.text.specs.ReadReplies.{tables_of, lowest_short, short_times, stored_reply, read_reply, read_reply_of};
-ghost use Rattle.text.specs.ReadSteps.{lowest_of_nine, RoomForAll, CountsWithin, job_taken, line_refusal};
+ghost use Rattle.text.specs.ReadSteps.{table_number, Named, lowest_of_nine, RoomForAll, CountsWithin, job_taken, line_refusal};
 ghost use Rattle.text.specs.Routes.{text_reply, write_reply, write_reply_of};
 ghost use Rattle.text.specs.Dot.{text_in, dot_reply, style_reply};
 ghost use Rattle.text.specs.WriteSteps.{LogTested, LatestPlaces};
@@ -102,69 +102,9 @@ pub use printing::print_line;
 use search::{EDGES_MOST, FIRST_EDGES_MOST, NODES_MOST, SINKS_MOST};
 pub use users::node_users;
 
-// The lowest of tables 1 to 7 that is shorter than the job needs, 0 if each is long enough.
-fn short_table(
-    nodes: usize,
-    edges: usize,
-    nets: usize,
-    sinks: usize,
-    kind: usize,
-    capacity: usize,
-    first_edge: usize,
-    edge_target: usize,
-    source: usize,
-    first_sink: usize,
-    sink: usize,
-) -> u32
-    requires { (nodes ≤ nodes_most) × (nets ≤ nets_most) }
-    ensures { result
-        ≡ lowest_short nodes edges nets sinks kind capacity first_edge edge_target source first_sink sink }
-{
-    if kind < nodes {
-        return 1;
-    }
-    if capacity < nodes {
-        return 2;
-    }
-    if first_edge < nodes + 1 {
-        return 3;
-    }
-    if edge_target < edges {
-        return 4;
-    }
-    if source < nets {
-        return 5;
-    }
-    if first_sink < nets + 1 {
-        return 6;
-    }
-    if sink < sinks {
-        return 7;
-    }
-    0
-}
-
-// The same of tables 9 and 10.
-fn short_times(nodes: usize, sinks: usize, delay: usize, criticality: usize) -> u32
-    ensures { result ≡ short_times nodes sinks delay criticality }
-{
-    if delay < nodes {
-        return 9;
-    }
-    if criticality < sinks {
-        return 10;
-    }
-    0
-}
-
-// The lowest of all tables, of which 9 and 10 need this many delays and criticalities.
-fn lowest_short(
-    nodes: usize,
-    edges: usize,
-    nets: usize,
-    sinks: usize,
-    delays: usize,
-    criticalities: usize,
+// How many entries each of the lent tables has.
+#[derive(Clone, Copy)]
+struct Lengths {
     kind: usize,
     capacity: usize,
     first_edge: usize,
@@ -174,28 +114,67 @@ fn lowest_short(
     sink: usize,
     delay: usize,
     criticality: usize,
-) -> u32
-    requires { (nodes ≤ nodes_most) × (nets ≤ nets_most) }
-    ensures { let first = lowest_short nodes edges nets sinks kind capacity first_edge edge_target source first_sink sink in
-        result ≡ lowest_of_nine first (short_times delays criticalities delay criticality) }
+}
+
+// The lowest of tables 1 to 7 that is shorter than the job needs.
+fn short_table(counts: JobCounts, lent: Lengths) -> Option<u32>
+    requires { (counts.nodes ≤ nodes_most) × (counts.nets ≤ nets_most) }
+    ensures number { table_number result ≡ lowest_short counts.nodes counts.edges counts.nets counts.sinks lent.kind lent.capacity
+        lent.first_edge lent.edge_target lent.source lent.first_sink lent.sink }
+    ensures named { Named result }
 {
-    let table = short_table(
-        nodes,
-        edges,
-        nets,
-        sinks,
-        kind,
-        capacity,
-        first_edge,
-        edge_target,
-        source,
-        first_sink,
-        sink,
-    );
-    if 1 <= table {
-        return table;
+    if lent.kind < counts.nodes {
+        return Some(1);
     }
-    short_times(delays, criticalities, delay, criticality)
+    if lent.capacity < counts.nodes {
+        return Some(2);
+    }
+    if lent.first_edge < counts.nodes + 1 {
+        return Some(3);
+    }
+    if lent.edge_target < counts.edges {
+        return Some(4);
+    }
+    if lent.source < counts.nets {
+        return Some(5);
+    }
+    if lent.first_sink < counts.nets + 1 {
+        return Some(6);
+    }
+    if lent.sink < counts.sinks {
+        return Some(7);
+    }
+    None
+}
+
+// The same of tables 9 and 10, which need this many delays and criticalities.
+fn short_times(delays: usize, criticalities: usize, lent: Lengths) -> Option<u32>
+    ensures number { table_number result ≡ short_times delays criticalities lent.delay lent.criticality }
+    ensures named { Named result }
+{
+    if lent.delay < delays {
+        return Some(9);
+    }
+    if lent.criticality < criticalities {
+        return Some(10);
+    }
+    None
+}
+
+// The lowest of all tables.
+fn lowest_short(
+    counts: JobCounts,
+    delays: usize,
+    criticalities: usize,
+    lent: Lengths,
+) -> Option<u32>
+    requires { (counts.nodes ≤ nodes_most) × (counts.nets ≤ nets_most) }
+    ensures number { let first = lowest_short counts.nodes counts.edges counts.nets counts.sinks lent.kind lent.capacity
+        lent.first_edge lent.edge_target lent.source lent.first_sink lent.sink in
+        table_number result ≡ lowest_of_nine first (short_times delays criticalities lent.delay lent.criticality) }
+    ensures named { Named result }
+{
+    short_table(counts, lent).or(short_times(delays, criticalities, lent))
 }
 
 // This many entries of a table that only timed jobs have.
@@ -249,24 +228,18 @@ fn store_job(
     } = counts;
     let delays_due = if_timed(terms.timed, nodes);
     let criticalities_due = if_timed(terms.timed, count);
-    let table = lowest_short(
-        nodes,
-        edges,
-        nets,
-        count,
-        delays_due,
-        criticalities_due,
-        kind.len(),
-        capacity.len(),
-        first_edge.len(),
-        edge_target.len(),
-        source.len(),
-        first_sink.len(),
-        sink.len(),
-        delay.len(),
-        criticality.len(),
-    );
-    if 1 <= table {
+    let lent = Lengths {
+        kind: kind.len(),
+        capacity: capacity.len(),
+        first_edge: first_edge.len(),
+        edge_target: edge_target.len(),
+        source: source.len(),
+        first_sink: first_sink.len(),
+        sink: sink.len(),
+        delay: delay.len(),
+        criticality: criticality.len(),
+    };
+    if let Some(table) = lowest_short(counts, delays_due, criticalities_due, lent) {
         return Err(ReadRefusal::ShortTable(table));
     }
     if job::exceeds(nodes, terms) {
