@@ -4,14 +4,14 @@ ghost use Rattle.text.specs.Routes.{branch_of};
 ghost use Rattle.text.specs.Dot.{dot_line};
 ghost use Rattle.text.specs.WriteSteps.{Put};
 
-use crate::{copy, decimal};
+use crate::decimal;
 
 // Writes bytes from a place on.
 pub fn put_bytes(buffer: &mut [u8], at: usize, bytes: &[u8]) -> usize
     requires { at + length bytes.now ≤ length buffer.old }
     ensures { Put at bytes.now buffer.old buffer.new result }
 {
-    copy::copy_bytes(bytes, bytes.len(), &mut buffer[at..]);
+    buffer[at..at + bytes.len()].copy_from_slice(bytes);
     at + bytes.len()
 }
 
