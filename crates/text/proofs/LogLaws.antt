@@ -9,7 +9,7 @@ use native.Mathlib.Nat.{add-zero, zero-add}
 use native.Mathlib.Omega.{arith}
 use lib.Dec.{leb, eqb}
 use lib.ListN.{length, get_or, take, drop, length-drop, drop_of_length-le}
-use lib.Seq.{get_or-drop, drop-drop}
+use lib.Seq.{get_or-drop, drop-drop, take_all}
 use borrow.Author.Tests.{le-leb, lt-leb, eq-eqb, ne_eqb, eqb-true}
 use Rattle.price.proofs.TestLaws.{by_test, both_right, le_or_lt}
 use Rattle.price.specs.Bounds.{nodes_most}
@@ -119,6 +119,10 @@ decode-next ws h =
     (decode-enough (length ws) (length (drop (record_length ws) ws)) (drop (record_length ws) ws) (omega arith) (omega arith))
 
 -- ---- the record at a place
+
+-- the words from a place on, which a slice takes
+pub words_on : (log : List ℕ) (at : ℕ) → at ≤ length log → take (length log - at) (drop at log) ≡ drop at log
+words_on log at l = take_all (length log - at) (drop at log) (rw (length-drop at log) (omega arith))
 
 abbrev pub record_at_lem : List ℕ → ℕ → Record
 record_at_lem log at =

@@ -12,10 +12,7 @@ fn begins_anew(log: &[u32], at: usize, from: usize, to: usize) -> bool
     requires { (from < length log.now) × (at < length log.now) }
     ensures { result ≡ either (eqb to 0) (not (eqb (get_or log.now from 0) (get_or log.now at 0))) }
 {
-    if to == 0 {
-        return true;
-    }
-    log[from] != log[at]
+    to == 0 || log[from] != log[at]
 }
 
 // For each net the place of the first record of its latest iteration and the place behind the last one, both 0 if it has none.

@@ -6,27 +6,27 @@ use native.Mathlib.Omega.{arith}
 use lib.ListN.{length}
 use Rattle.text.specs.Routes.{capped}
 use Rattle.text.proofs.RouteTextLaws.{text_bytes, needed_sum, text_short, tail_room, text_done}
-use Rattle.text.proofs.write_lines.Goals.{After-capped_sum-needed, Else-buffer-needed, Start}
+use Rattle.text.proofs.write_lines.Goals.{After-saturating_add-needed, Else-buffer-needed, Start}
 use Rattle.text.proofs.write_lines.Goals as goal
 
 -- the bytes of the text, as far as 64 bits hold them
-needed : (c : After-capped_sum-needed) → c.capped_sum-needed.result ≡ capped (text_bytes c.args.style c.args.iteration c.args.turns c.args.log.now c.args.source.now)
+needed : (c : After-saturating_add-needed) → c.saturating_add-needed.result ≡ capped (text_bytes c.args.style c.args.found.iteration c.args.found.turns c.args.log.now c.args.source.now)
 needed c =
     let a = c.args in
-    needed_sum a.style a.iteration a.turns a.log.now a.source.now c.head_length-head.ensures.0 c.tail_length.ensures.0 c.put_branches.ensures c.capped_sum-needed.ensures
+    needed_sum a.style a.found.iteration a.found.turns a.log.now a.source.now c.head_length-head.ensures.0 c.tail_length.ensures.0 c.put_branches-body.ensures c.saturating_add-needed.ensures
 
 -- the buffer has room for it
-fits : (c : Else-buffer-needed) → text_bytes c.args.style c.args.iteration c.args.turns c.args.log.now c.args.source.now ≤ length c.args.buffer.now
+fits : (c : Else-buffer-needed) → text_bytes c.args.style c.args.found.iteration c.args.found.turns c.args.log.now c.args.source.now ≤ length c.args.buffer.now
 fits c =
     let a = c.args in
-    let sum = needed_sum a.style a.iteration a.turns a.log.now a.source.now c.head_length-head.ensures.0 c.tail_length.ensures.0 c.put_branches.ensures c.capped_sum-needed.ensures in
+    let sum = needed_sum a.style a.found.iteration a.found.turns a.log.now a.source.now c.head_length-head.ensures.0 c.tail_length.ensures.0 c.put_branches-body.ensures c.saturating_add-needed.ensures in
     omega (arith, sum, c.if-buffer-needed.false, c.well_formed)
 
 short : (e : Start) → length e.args.buffer.now < 2 ^ 64
 short e = omega (arith, e.well_formed)
 
 pub returns-then-buffer-needed : goal.returns-then-buffer-needed
-returns-then-buffer-needed c = text_short c.args.style c.requires.source_len_bound.1 c.args.source.now _ (needed (goal.at.returns-then-buffer-needed c).After-capped_sum-needed) c.if-buffer-needed.true
+returns-then-buffer-needed c = text_short c.args.style c.requires.source_len_bound.1 c.args.source.now _ (needed (goal.at.returns-then-buffer-needed c).After-saturating_add-needed) c.if-buffer-needed.true
 
 pub put_head-at-requires : goal.put_head-at-requires
 put_head-at-requires c = omega (arith, fits (goal.at.put_head-at-requires c).Else-buffer-needed)

@@ -31,11 +31,8 @@ bounds-log-at c = omega (arith, within (goal.at.bounds-log-at c).In-loop-at)
 pub overflow_add-at-then-log-at : goal.overflow_add-at-then-log-at
 overflow_add-at-then-log-at c = omega (arith, within (goal.at.overflow_add-at-then-log-at c).In-loop-at)
 
-pub put_steps-next-requires : goal.put_steps-next-requires
-put_steps-next-requires c =
-    let is = c.record_end-end.ensures in
-    let next = within (goal.at.put_steps-next-requires c).In-loop-at in
-    (omega (arith, is), omega (arith, is, next))
+pub slice_bounds-put_steps-end : goal.slice_bounds-put_steps-end
+slice_bounds-put_steps-end c = omega (arith, c.record_end-end.ensures, within (goal.at.slice_bounds-put_steps-end c).In-loop-at)
 
 pub loop-at-smaller-then-log-at : goal.loop-at-smaller-then-log-at
 loop-at-smaller-then-log-at c = omega (arith, c.record_end-end.ensures, within (goal.at.loop-at-smaller-then-log-at c).In-loop-at)

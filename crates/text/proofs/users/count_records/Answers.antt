@@ -1,12 +1,10 @@
 -- `text::users::count_records` meets its contract. The loop's invariant: the nodes of the net's records passed are counted.
 -- Assumes nothing.
-use mathlib.Core.Path.{◌≡◌, sym, ◌∙◌, subst}
-use Prim.Native.Nat.{ℕ, ◌+◌, ◌≤◌}
+use mathlib.Core.Path.{◌≡◌, ◌∙◌}
+use Prim.Native.Nat.{◌≤◌}
 use native.Mathlib.Omega.{arith}
 use lib.ListN.{length}
-use lib.Seq.{slice}
 use Rattle.std.proofs.Common.{rules}
-use Rattle.job.specs.Steps.{AllBelow}
 use Rattle.text.specs.WriteSteps.{next_at}
 use Rattle.text.proofs.BranchLaws.{rest_fits}
 use Rattle.text.proofs.users.UserLaws.{path-below, records-none, records-all, records_passed, records_met}
@@ -35,19 +33,16 @@ bounds-log-at c = omega (arith, within (goal.at.bounds-log-at c).In-loop-at)
 pub overflow_add-at-then-log-at : goal.overflow_add-at-then-log-at
 overflow_add-at-then-log-at c = omega (arith, within (goal.at.overflow_add-at-then-log-at c).In-loop-at)
 
+pub slice_bounds-count_path-end : goal.slice_bounds-count_path-end
+slice_bounds-count_path-end c = omega (arith, c.record_end-end.ensures, within (goal.at.slice_bounds-count_path-end c).In-loop-at)
+
 pub count_path-requires : goal.count_path-requires
 count_path-requires c =
-    let is = c.record_end-end.ensures in
     let inv = c.loop-at.invariant in
-    let next = within (goal.at.count_path-requires c).In-loop-at in
     let long : length c.loop-at.users ≡ 4096 = inv.users-long ∙ c.requires.all_sound.1 in
     record {
-      from_le_to = (omega (arith, is), omega (arith, is, next), omega (arith, inv.users-long, inv.stamps-long, c.requires.all_sound.1, c.requires.all_sound.2));
-      all_below = (
-        subst (λ (n : ℕ). AllBelow n (slice (c.loop-at.at + 6) c.record_end-end.result c.args.log.now)) (sym long)
-            (path-below inv.rest inv.nodes-few c.loop-at-test.true is),
-        inv.few,
-      );
+      as_long = omega (arith, inv.users-long, inv.stamps-long, c.requires.all_sound.1, c.requires.all_sound.2);
+      all_below = (rw long (path-below inv.rest inv.nodes-few c.loop-at-test.true c.record_end-end.ensures), inv.few);
     }
 
 pub loop-at-smaller-then-log-at : goal.loop-at-smaller-then-log-at
