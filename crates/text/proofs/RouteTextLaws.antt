@@ -96,7 +96,7 @@ module _ {log : List ℕ} {iteration turns : ℕ} (style : Style) (f : LogTested
 -- ---- the writer
 
 -- what a refusal answers
-pub write_refused : (buffer : List ℕ) (r : Result ℕ WriteRefusal) (e : WriteRefusal) → IsErrAnd r (λ x. x ≡ e) → write_reply_of r buffer ≡ not_written (write_refusal e) buffer
+pub write_refused : (buffer : List ℕ) (r : Result ℕ WriteRefusal) (e : WriteRefusal) → IsErrAnd r (λ x. x ≡ e) → write_reply_of r buffer ≡ not_written (write_refusal (Err e)) buffer
 write_refused buffer (Ok bytes) e h = absurd h
 write_refused buffer (Err x) e h = rw h refl
 

@@ -186,13 +186,17 @@ tested_reply text sources log buffer =
 abbrev pub write_reply : List ℕ → List ℕ → List ℕ → WriteReply
 write_reply sources log buffer = tested_reply routes_text sources log buffer
 
--- 01's numbers for each refusal
-abbrev pub write_refusal : WriteRefusal → List ℕ
-write_refusal (BadTable table) = 5 ∷ table ∷ []
-write_refusal (Unsound word) = 10 ∷ word ∷ []
-write_refusal (ShortBuffer needed) = 11 ∷ needed ∷ []
+-- 01's numbers for each case of the answer
+abbrev pub write_refusal : Result ℕ WriteRefusal → List ℕ
+write_refusal (Ok bytes) = []
+write_refusal (Err (BadTable table)) = 5 ∷ table ∷ []
+write_refusal (Err (Unsound word)) = 10 ∷ word ∷ []
+write_refusal (Err (ShortBuffer needed)) = 11 ∷ needed ∷ []
+
+abbrev pub written_bytes : Result ℕ WriteRefusal → ℕ
+written_bytes (Ok bytes) = bytes
+written_bytes (Err refusal) = 0
 
 -- the answer with the buffer at the call's end
 abbrev pub write_reply_of : Result ℕ WriteRefusal → List ℕ → WriteReply
-write_reply_of (Ok bytes) buffer = record { refusal = []; bytes = bytes; buffer = buffer }
-write_reply_of (Err refusal) buffer = not_written (write_refusal refusal) buffer
+write_reply_of r buffer = record { refusal = write_refusal r; bytes = written_bytes r; buffer = buffer }
