@@ -1,12 +1,13 @@
 // The branches of a sound log, in either style: each net's in order, from its latest records. If the buffer lacks room, they are
 // only counted.
-ghost use Rattle.std.specs.Prelude.{◌≤◌, length};
+ghost use Rattle.std.specs.Prelude.{◌≤◌};
 ghost use Rattle.negotiation.specs.Records.{decode};
 ghost use Rattle.job.specs.Tables.{nets_most};
 ghost use Rattle.text.specs.Routes.{branch_of, steps, record_branches, route_branches};
 ghost use Rattle.text.specs.Dot.{style_line, style_text};
 ghost use Rattle.text.specs.WriteSteps.{Filled, AllSound, own_records, LatestPlaces};
 
+use crate::latest::Latest;
 use crate::{Style, log_check, parts};
 
 // One line.
@@ -48,33 +49,31 @@ fn put_records(style: Style, log: &[u32], net: u32, buffer: &mut [u8], start: u6
     let mut next = start;
     let mut at = 0;
     while at < log.len() {
-        let end = log_check::record_end(log, at);
-        if log[at + 1] == net {
-            next = put_steps(style, net, &log[at + 6..end], buffer, next);
+        let record = log_check::record_at(log, at);
+        if record.net == net {
+            next = put_steps(style, net, record.path, buffer, next);
         }
-        at = end;
+        at = record.end;
     }
     next
 }
 
-// The branches of the first nets, by the places of their latest records.
+// The branches of the first nets, from their latest records.
 pub fn put_branches(
     style: Style,
     log: &[u32],
     nets: usize,
-    from: &[usize],
-    to: &[usize],
+    latest: &Latest,
     buffer: &mut [u8],
     start: u64,
 ) -> u64
-    requires nets_le_nets_most { (nets ≤ nets_most) × (nets_most ≤ length from.now) × (nets_most ≤ length to.now) }
-    requires latest_places { LatestPlaces log.now from.now to.now }
+    requires { (nets ≤ nets_most) × LatestPlaces log.now latest.now.from latest.now.to }
     ensures { let bytes = style_text style (route_branches nets (decode log.now)) in
         Filled start bytes buffer.old buffer.new result }
 {
     let mut next = start;
     for net in 0..nets {
-        next = put_records(style, &log[from[net]..to[net]], net as u32, buffer, next);
+        next = put_records(style, latest.of(log, net), net as u32, buffer, next);
     }
     next
 }

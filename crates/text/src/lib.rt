@@ -9,7 +9,7 @@ ghost use Rattle.text.specs.ReadReplies.{Tables, tables_of, lowest_short, short_
 ghost use Rattle.text.specs.ReadSteps.{lowest_of_nine, RoomForAll, CountsWithin, job_taken, LineRow};
 ghost use Rattle.text.specs.Routes.{text_reply, write_reply, write_reply_of};
 ghost use Rattle.text.specs.Dot.{text_in, dot_reply, style_reply};
-ghost use Rattle.text.specs.WriteSteps.{LogTested, LatestPlaces};
+ghost use Rattle.text.specs.WriteSteps.{LogTested};
 ghost use Rattle.negotiation.specs.Records.{decode};
 ghost use Rattle.job.specs.Tables.{nets_most};
 
@@ -395,34 +395,7 @@ pub fn read_job(
     }
 }
 
-// Writes a text of a sound log, by the places of the nets' latest records.
-fn write_lines(
-    style: Style,
-    source: &[u16],
-    log: &[u32],
-    from: &[usize],
-    to: &[usize],
-    found: SoundLog,
-    buffer: &mut [u8],
-) -> Result<usize, WriteRefusal>
-    requires source_len_bound { (length source.now ≤ nets_most) × LogTested log.now found.iteration found.turns }
-    requires nets_most_in_bounds { (nets_most ≤ length from.now) × (nets_most ≤ length to.now) × LatestPlaces log.now from.now to.now }
-    ensures { write_reply_of result buffer.new
-        ≡ text_reply (text_in style source.now (decode log.now)) buffer.old }
-{
-    let mut none = [0u8; 0];
-    let head = parts::head_length(style, found.iteration as u64, found.turns as u64) as u64;
-    let body = branches::put_branches(style, log, source.len(), from, to, &mut none, 0);
-    let needed = (head + parts::tail_length(style, source)).saturating_add(body);
-    if (buffer.len() as u64) < needed {
-        return Err(WriteRefusal::ShortBuffer(needed));
-    }
-    let at = parts::put_head(style, buffer, found.iteration as u64, found.turns as u64);
-    let next = branches::put_branches(style, log, source.len(), from, to, buffer, at as u64);
-    Ok(parts::put_tail(style, source, buffer, next as usize))
-}
-
-// Finds these places and writes the text.
+// Writes a text of a sound log: what it takes is counted first.
 fn write_text(
     style: Style,
     source: &[u16],
@@ -434,10 +407,16 @@ fn write_text(
     ensures { write_reply_of result buffer.new
         ≡ text_reply (text_in style source.now (decode log.now)) buffer.old }
 {
-    let mut from = [0usize; NETS_MOST];
-    let mut to = [0usize; NETS_MOST];
-    latest::latest_records(log, &mut from, &mut to);
-    write_lines(style, source, log, &from, &to, found, buffer)
+    let latest = latest::latest_records(log);
+    let head = parts::head_length(style, found.iteration as u64, found.turns as u64) as u64;
+    let body = branches::put_branches(style, log, source.len(), &latest, &mut [], 0);
+    let needed = (head + parts::tail_length(style, source)).saturating_add(body);
+    if (buffer.len() as u64) < needed {
+        return Err(WriteRefusal::ShortBuffer(needed));
+    }
+    let at = parts::put_head(style, buffer, found.iteration as u64, found.turns as u64);
+    let next = branches::put_branches(style, log, source.len(), &latest, buffer, at as u64);
+    Ok(parts::put_tail(style, source, buffer, next as usize))
 }
 
 // Writes either text of a log, after the writer's tests of table 5 and of the log.

@@ -3,7 +3,7 @@ ghost use Rattle.std.specs.Prelude.{◌≡◌, ◌≤◌, ltb, length};
 ghost use Rattle.std.specs.List.{list_all};
 ghost use Rattle.text.specs.Routes.{path_sound, record_sound};
 ghost use Rattle.text.specs.Users.{log_checked, checked_at};
-ghost use Rattle.text.specs.WriteSteps.{next_at, net_marked, named_by};
+ghost use Rattle.text.specs.WriteSteps.{RecordAt, next_at, net_marked, named_by};
 
 use crate::bounds;
 use search::NODES_MOST;
@@ -57,12 +57,27 @@ fn record_sound(marks: &[u8], nodes: usize, words: &[u32], last: u32) -> bool
         && path_sound(nodes, words, words[5] as usize, words[2])
 }
 
-// The place after a record that the log has whole.
-pub fn record_end(log: &[u32], at: usize) -> usize
+// A record of a log: its iteration, its net, its path, and the place after it.
+#[derive(Clone, Copy)]
+pub struct Record<'a> {
+    pub iteration: u32,
+    pub net: u32,
+    pub path: &'a [u32],
+    pub end: usize,
+}
+
+// The record at a place, which the log has whole.
+pub fn record_at(log: &[u32], at: usize) -> Record<'_>
     requires { next_at log.now at ≤ length log.now }
-    ensures { result ≡ next_at log.now at }
+    ensures { RecordAt log.now at result.iteration result.net result.path.now result.end }
 {
-    at + 6 + log[at + 5] as usize
+    let end = at + 6 + log[at + 5] as usize;
+    Record {
+        iteration: log[at],
+        net: log[at + 1],
+        path: &log[at + 6..end],
+        end,
+    }
 }
 
 // Goes from record to record, each of which is of a marked net and of nodes below the bound.
@@ -76,8 +91,9 @@ pub fn check_log(marks: &[u8], nodes: usize, log: &[u32]) -> Result<SoundLog, Un
         if !record_sound(marks, nodes, &log[at..], iteration) {
             return Err(UnsoundLog { word: at });
         }
-        iteration = log[at];
-        at = record_end(log, at);
+        let record = record_at(log, at);
+        iteration = record.iteration;
+        at = record.end;
         turns += 1;
     }
     if turns == 0 {

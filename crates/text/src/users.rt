@@ -9,6 +9,7 @@ ghost use Rattle.text.specs.Users.{below_nodes, nets_with, users_reply, users_re
 ghost use Rattle.text.specs.UserSteps.{Counted, FewUsers};
 ghost use Rattle.text.specs.WriteSteps.{AllSound, own_records, LatestPlaces};
 
+use crate::latest::Latest;
 use crate::log_check::{SoundLog, UnsoundLog};
 use crate::{latest, log_check};
 use job::NETS_MOST;
@@ -38,17 +39,17 @@ fn count_records(log: &[u32], net: u32, stamp: u16, users: &mut [u16], stamps: &
 {
     let mut at = 0;
     while at < log.len() {
-        let end = log_check::record_end(log, at);
-        if log[at + 1] == net {
-            count_path(&log[at + 6..end], stamp, users, stamps);
+        let record = log_check::record_at(log, at);
+        if record.net == net {
+            count_path(record.path, stamp, users, stamps);
         }
-        at = end;
+        at = record.end;
     }
 }
 
-// Counts every net's latest records, by their places.
-fn count_nets(log: &[u32], from: &[usize], to: &[usize], users: &mut [u16], stamps: &mut [u16])
-    requires from_len { (length from.now ≡ nets_most) × (length to.now ≡ nets_most) × LatestPlaces log.now from.now to.now }
+// Counts every net's latest records.
+fn count_nets(log: &[u32], latest: &Latest, users: &mut [u16], stamps: &mut [u16])
+    requires latest_places { LatestPlaces log.now latest.now.from latest.now.to }
     requires users_len { (length users.old ≡ nodes_most) × (length stamps.old ≡ nodes_most)
         × ((v : ℕ) → (get_or users.old v 0 ≡ 0) × (get_or stamps.old v 0 ≡ 0)) }
     ensures { (length users.new ≡ nodes_most)
@@ -56,7 +57,7 @@ fn count_nets(log: &[u32], from: &[usize], to: &[usize], users: &mut [u16], stam
 {
     for net in 0..NETS_MOST {
         count_records(
-            &log[from[net]..to[net]],
+            latest.of(log, net),
             net as u32,
             net as u16 + 1,
             users,
@@ -70,12 +71,10 @@ fn count_users(log: &[u32], users: &mut [u16; NODES_MOST])
     requires { AllSound log.now }
     ensures { users.new ≡ up_to (nets_with (decode log.now)) nodes_most }
 {
-    let mut from = [0usize; NETS_MOST];
-    let mut to = [0usize; NETS_MOST];
-    latest::latest_records(log, &mut from, &mut to);
+    let latest = latest::latest_records(log);
     let mut stamps = [0u16; NODES_MOST];
     *users = [0u16; NODES_MOST];
-    count_nets(log, &from, &to, users, &mut stamps);
+    count_nets(log, &latest, users, &mut stamps);
 }
 
 // How many nets' final trees have each node, of a log whose records name nets below 512 and nodes below this bound and 4,096.

@@ -23,7 +23,7 @@ use Rattle.job.specs.Steps.{AllBelow}
 use Rattle.job.specs.Tables.{nets_most}
 use Rattle.job.proofs.MarkLaws.{stored_none, stored_one, stored_append}
 use Rattle.text.specs.Routes.{path_words, passing}
-use Rattle.text.specs.WriteSteps.{next_at, AllSound, part, own_records, Latest}
+use Rattle.text.specs.WriteSteps.{next_at, AllSound, part, own_records, LatestWords, RecordAt}
 use Rattle.text.specs.Users.{nets_with}
 use Rattle.text.specs.UserSteps.{Counted, FewUsers}
 use Rattle.text.proofs.LogLaws.{long-at, decode-at, decode-none}
@@ -145,9 +145,9 @@ module _ {log : List ℕ} {at : ℕ} (p : Rest log at) (few : p.named.nodes ≤ 
   nodes-sound = (first_short p.named p.last rest (sound-here p l)).nodes-below
 
   -- its nodes are numbers of nodes
-  pub path-below : {end : ℕ} → end ≡ next_at log at → AllBelow nodes_most (part log (at + 6) end)
-  path-below is =
-      rw is
+  pub path-below : {iteration own end : ℕ} {words : List ℕ} → RecordAt log at iteration own words end → AllBelow nodes_most words
+  path-below r =
+      rw (r.path-is, r.end-is)
       (subst (AllBelow nodes_most) path-is
       (λ k h. let low = ltb-true (get_or path k 0) p.named.nodes (every-at (λ v. ltb v p.named.nodes) path nodes-sound k h) in omega arith))
 
@@ -194,29 +194,29 @@ module _ {stamp net : ℕ} {log users stamps users_now stamps_now : List ℕ} {a
       p.whole users_now stamps_now (rw none (counted_none stamp users_now stamps_now))
 
   module _ (l : at < length log) where
-    module _ {end : ℕ} (is : end ≡ next_at log at) where
-      pub records_passed : (get_or log (at + 1) 0 ≡ net → ⊥) → CountingRecords stamp net log users stamps users_now stamps_now end
+    module _ {iteration own end : ℕ} {path : List ℕ} (r : RecordAt log at iteration own path end) where
+      pub records_passed : (own ≡ net → ⊥) → CountingRecords stamp net log users stamps users_now stamps_now end
       records_passed e =
           record {
-            rest = rw is (rest_next p.rest l);
+            rest = rw r.end-is (rest_next p.rest l);
             nodes-few = p.nodes-few;
             few = p.few;
             users-long = p.users-long;
             stamps-long = p.stamps-long;
-            whole = λ u s c. p.whole u s (rw (nodes_passed p.rest l net e, ← is) c);
+            whole = λ u s c. p.whole u s (rw (nodes_passed p.rest l net (λ q. e (r.net-is ∙ q)), ← r.end-is) c);
           }
 
       pub records_met :
-          {u s : List ℕ} → get_or log (at + 1) 0 ≡ net → Counted stamp (part log (at + 6) end) users_now stamps_now u s
+          {u s : List ℕ} → own ≡ net → Counted stamp path users_now stamps_now u s
           → CountingRecords stamp net log users stamps u s end
       records_met e q =
           record {
-            rest = rw is (rest_next p.rest l);
+            rest = rw r.end-is (rest_next p.rest l);
             nodes-few = p.nodes-few;
             few = few-counted p.few q;
             users-long = q.users-long ∙ p.users-long;
             stamps-long = q.stamps-set.long ∙ p.stamps-long;
-            whole = λ v t c. p.whole v t (rw (nodes_met p.rest l net e, ← is) (counted-append q c));
+            whole = λ v t c. p.whole v t (rw (nodes_met p.rest l net (sym r.net-is ∙ e), ← r.end-is, ← r.path-is) (counted-append q c));
           }
 
 -- ---- net after net
@@ -249,11 +249,11 @@ module _ {log users stamps : List ℕ} {net : ℕ} (p : CountingNets log users s
   nets-few v = omega (arith, p.users-at v, p.within, count_most_lem (λ i. has v (tree_read i (decode log))) net)
 
   pub nets-more :
-      {from to : ℕ} {u s : List ℕ} → net < nets_most → Latest log net from to → Counted (net + 1) (path_nodes (own_records net (decode (part log from to)))) users stamps u s
+      {words u s : List ℕ} → net < nets_most → LatestWords log net words → Counted (net + 1) (path_nodes (own_records net (decode words))) users stamps u s
       → CountingNets log u s (net + 1)
   unfolding count_below
-  nets-more {from} {to} {u} {s} l latest c =
-      let tree : path_nodes (own_records net (decode (part log from to))) ≡ tree_read net (decode log) =
+  nets-more {words} {u} {s} l latest c =
+      let tree : path_nodes (own_records net (decode words)) ≡ tree_read net (decode log) =
       ap path_nodes latest.own ∙ sym (tree_read_lem net (decode log)) in
       let is : Counted (net + 1) (tree_read net (decode log)) users stamps u s = rw tree at c in
       record {

@@ -31,17 +31,17 @@ returns-then-not-record_sound c =
     checked-unsound c.loop-at.invariant (search rules)
     (rw (words_on _ _ c.loop-at.invariant.within) at (sym c.record_sound.ensures ∙ not-true _ (ap not c.if-not-record_sound.true)))
 
-pub record_end-at-requires : goal.record_end-at-requires
-record_end-at-requires c = next (goal.at.record_end-at-requires c).Else-not-record_sound
+pub record_at-record-requires : goal.record_at-record-requires
+record_at-record-requires c = next (goal.at.record_at-record-requires c).Else-not-record_sound
 
 pub overflow_add-turns : goal.overflow_add-turns
 overflow_add-turns c = omega (arith, next (goal.at.overflow_add-turns c).Else-not-record_sound)
 
 pub loop-at-smaller : goal.loop-at-smaller
-loop-at-smaller c = omega (arith, c.record_end-at.ensures, next (goal.at.loop-at-smaller c).Else-not-record_sound)
+loop-at-smaller c = omega (arith, c.record_at-record.ensures.end-is, next (goal.at.loop-at-smaller c).Else-not-record_sound)
 
 pub loop-at-preserved : goal.loop-at-preserved
-loop-at-preserved c = checking_next c.loop-at.invariant (here (goal.at.loop-at-preserved c).Else-not-record_sound) c.record_end-at.ensures
+loop-at-preserved c = checking_next c.loop-at.invariant (here (goal.at.loop-at-preserved c).Else-not-record_sound) c.record_at-record.ensures
 
 pub returns-then-turns-eq0 : goal.returns-then-turns-eq0
 returns-then-turns-eq0 c = checked-none c.loop-at.invariant (search rules) (search rules)
