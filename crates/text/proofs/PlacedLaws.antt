@@ -130,26 +130,14 @@ pub put-room : {at p : ℕ} {xs b₀ b₁ : List ℕ} → Put at xs b₀ b₁ p 
 put-room {at} {p} {xs} {b₀} {b₁} f k fits =
     rw (f.next-is, put-length f (omega arith)) (omega arith)
 
--- bytes copied to the front of what the buffer has from a place on
+-- bytes copied over the part of the buffer that begins at a place
 pub put-over :
-    (at : ℕ) (bytes buffer : List ℕ) {part : List ℕ} → at + length bytes ≤ length buffer
-    → part ≡ take (length bytes) bytes ++ drop (length bytes) (take (length buffer - at) (drop at buffer))
-    → Put at bytes buffer (take at buffer ++ (part ++ drop (length buffer - at) (drop at buffer))) (at + length bytes)
+    (at : ℕ) (bytes buffer : List ℕ) {part : List ℕ} → part ≡ bytes
+    → Put at bytes buffer (take at buffer ++ (part ++ drop (at + length bytes - at) (drop at buffer))) (at + length bytes)
 unfolding placed
-put-over at bytes buffer {part} fits e =
-    let short : length (drop at buffer) ≤ length buffer - at = rw (length-drop at buffer) (omega arith) in
-    record {
-      written =
-          rw (
-            drop_of_length-le (drop at buffer) short,
-            append-nil part,
-            e,
-            take-length bytes,
-            take_all (length buffer - at) (drop at buffer) short,
-            drop-drop (length bytes) at buffer,
-          );
-      next-is = refl;
-    }
+put-over at bytes buffer {part} e =
+    let long : at + length bytes - at ≡ length bytes = omega arith in
+    record { written = rw (e, long, drop-drop (length bytes) at buffer); next-is = refl }
 
 -- a piece before the rest
 pub put-onward :
