@@ -10,6 +10,9 @@ loop-net-init c =
     let asked = c.requires.users_len in
     nets-none _ _ _ asked.0 asked.1 asked.2
 
+pub count_records-requires-clause-few_users : goal.count_records-requires-clause-few_users
+count_records-requires-clause-few_users c = nets-few c.loop-net.invariant
+
 pub loop-net-preserved : goal.loop-net-preserved
 loop-net-preserved c = nets-more c.loop-net.invariant (search rules) c.of.ensures c.count_records.ensures
 
