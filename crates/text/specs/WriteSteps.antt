@@ -1,6 +1,6 @@
 -- What the contracts of the writer's private functions say.
 -- Assumes nothing.
-use Rattle.std.specs.Prelude.{Bool, true, List, [], ◌∷◌, ◌≡◌, ℕ, ◌+◌, ◌-◌, ◌^◌, ◌≤◌, ◌<◌, eqb, length, get_or, take, drop}
+use Rattle.std.specs.Prelude.{Bool, true, false, List, [], ◌∷◌, ◌≡◌, ℕ, ◌+◌, ◌-◌, ◌^◌, ◌≤◌, ◌<◌, eqb, length, get_or, take, drop}
 use Rattle.price.specs.Bounds.{nodes_most}
 use Rattle.job.specs.Tables.{nets_most}
 use Rattle.negotiation.specs.Records.{Record, decode}
@@ -14,6 +14,17 @@ use Rattle.text.specs.declared.Style.TheVariants as s
 -- the place after the record at a place of a log
 abbrev pub next_at : List ℕ → ℕ → ℕ
 next_at log at = at + 6 + get_or log (at + 5) 0
+
+-- the words from a place up to another
+abbrev pub part : List ℕ → ℕ → ℕ → List ℕ
+part log from to = take (to - from) (drop from log)
+
+-- the numbers and the path of the record at a place, and the place after it
+pub record RecordAt (log : List ℕ) (at iteration net : ℕ) (path : List ℕ) (end : ℕ) : Type 0 where
+  pub iteration-is : iteration ≡ get_or log at 0
+  pub net-is : net ≡ get_or log (at + 1) 0
+  pub path-is : path ≡ part log (at + 6) end
+  pub end-is : end ≡ next_at log at
 
 -- the bytes stand in the buffer from a place to the next
 pub record Put (at : ℕ) (bytes before after : List ℕ) (next : ℕ) : Type 0 where
@@ -37,12 +48,12 @@ abbrev pub tail_text : Style → List ℕ → List ℕ
 tail_text s.Lines sources = join_text (route_joins sources)
 tail_text s.Picture sources = dot_end
 
--- the nets that bear the mark 1
-unfoldable pub net_marked : List ℕ → ℕ → Bool
-net_marked marks i = eqb (get_or marks i 0) 1
+-- the nets that are marked
+unfoldable pub net_marked : List Bool → ℕ → Bool
+net_marked marks i = get_or marks i false
 
 -- what a log may name by marks of nets and a bound of nodes
-abbrev pub named_by : List ℕ → ℕ → Named
+abbrev pub named_by : List Bool → ℕ → Named
 named_by marks nodes = record { net = net_marked marks; nodes = nodes }
 
 -- every word is one of a sound record, which may name some of the nets below 512 and of the nodes below 4,096
@@ -60,10 +71,6 @@ pub record LogTested (log : List ℕ) (iteration turns : ℕ) : Type 0 where
 
 -- ---- the latest records of each net
 
--- the words from a place up to another
-abbrev pub part : List ℕ → ℕ → ℕ → List ℕ
-part log from to = take (to - from) (drop from log)
-
 -- the records of net i
 abbrev pub own_records : ℕ → List Record → List Record
 own_records i = passing (λ (r : Record). eqb r.net i)
@@ -74,6 +81,11 @@ pub record Latest (log : List ℕ) (i from to : ℕ) : Type 0 where
   pub within : to ≤ length log
   pub part_sound : AllSound (part log from to)
   pub own : own_records i (decode (part log from to)) ≡ final_records i (decode log)
+
+-- the words between them
+pub record LatestWords (log : List ℕ) (i : ℕ) (words : List ℕ) : Type 0 where
+  pub words_sound : AllSound words
+  pub own : own_records i (decode words) ≡ final_records i (decode log)
 
 -- two places for each net that may have records
 abbrev pub LatestPlaces : List ℕ → List ℕ → List ℕ → Type 0
