@@ -53,11 +53,12 @@ module _ {text : List ℕ} {at : ℕ} where
         let on = i.on in
         record { within = omega arith; on = omega (arith, on); same = omega (arith, more, same) }
 
-    pub text_ends : length text ≤ k → at < length text → (k ≡ next_line text at) × (at < k)
-    text_ends end inside =
+    pub text_ends : length text ≤ k → length text ≡ next_line text at
+    text_ends end =
         let none = line_past text k end in
+        let within = i.within in
         let same = i.same in
-        (omega (arith, none, same), omega (arith, end, inside))
+        omega (arith, none, within, same)
 
 -- ---- the places of lines
 

@@ -2,6 +2,28 @@
 // the file.
 #![tactic(auto)]
 
+ghost use Rattle.std.specs.Prelude.{◌<◌};
+
 pub mod lines;
 pub mod read;
 pub mod show;
+
+// Standard input, by its number: std's reader has no call that fills an array as far as the input goes, without a heap.
+const STDIN: i32 = 0;
+
+// Calls `one` on each case of the case file, with the text from that case on.
+pub fn each<F: Fn(&[u8])>(one: F)
+    requires { F.IsAlwaysCallable one }
+{
+    let mut file = [0u8; 131072];
+    let size = io::read_full(STDIN, &mut file);
+    if size == file.len() {
+        show::malformed();
+    }
+    let file = &file[..size];
+    let mut at = lines::first_case(file, 0);
+    while at < file.len() {
+        one(&file[at..]);
+        at = lines::next_case(file, at);
+    }
+}

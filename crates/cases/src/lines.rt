@@ -9,14 +9,12 @@ fn next_line(text: &[u8], at: usize) -> usize
     ensures value { result ≡ next_line text.now at }
     ensures lower_bound { at < result }
 {
-    let mut k = at;
-    while k < text.len() {
+    for k in at..text.len() {
         if text[k] == 10 {
             return k + 1;
         }
-        k += 1;
     }
-    k
+    text.len()
 }
 
 // The place of the first case from here on, past comments and empty lines; the end of the text, if there is none.
@@ -24,11 +22,7 @@ pub fn first_case(text: &[u8], from: usize) -> usize
     ensures { from ≤ result }
 {
     let mut k = from;
-    while k < text.len() {
-        let b = text[k];
-        if b != 10 && b != b'#' {
-            return k;
-        }
+    while k < text.len() && matches!(text[k], b'\n' | b'#') {
         k = next_line(text, k);
     }
     k
@@ -40,10 +34,7 @@ fn case_end(text: &[u8], at: usize) -> usize
     ensures { at < result }
 {
     let mut k = next_line(text, at);
-    while k < text.len() {
-        if text[k] == 10 {
-            return k;
-        }
+    while k < text.len() && text[k] != 10 {
         k = next_line(text, k);
     }
     k
@@ -56,8 +47,7 @@ pub fn next_case(text: &[u8], at: usize) -> usize
     if text.len() <= at {
         return at;
     }
-    let end = case_end(text, at);
-    first_case(text, end)
+    first_case(text, case_end(text, at))
 }
 
 // The place of a case's line, from 0; the case's name is line 0. The end of the text, if there is none.
@@ -65,13 +55,11 @@ pub fn line(case: &[u8], number: usize) -> usize
     ensures { result ≡ line_from case.now 0 number }
 {
     let mut at = 0;
-    let mut left = number;
-    while left > 0 {
+    for _ in 0..number {
         if case.len() <= at {
             return at;
         }
         at = next_line(case, at);
-        left -= 1;
     }
     at
 }
@@ -80,10 +68,7 @@ pub fn line(case: &[u8], number: usize) -> usize
 pub fn is_empty(case: &[u8], at: usize) -> bool
     ensures { result ≡ empty_line (drop at case.now) }
 {
-    if case.len() <= at {
-        return true;
-    }
-    case[at] == 10
+    case.len() <= at || case[at] == 10
 }
 
 // A letter, from 0, of the word that names the case's call, with which line 1 begins; 0, if there is none.
@@ -91,10 +76,7 @@ pub fn call(case: &[u8], letter: usize) -> u8
     ensures { result ≡ call_letter case.now letter }
 {
     let at = line(case, 1);
-    if case.len() <= at {
-        return 0;
-    }
-    if case.len() - at <= letter {
+    if case.len() <= at || case.len() - at <= letter {
         return 0;
     }
     case[at + letter]

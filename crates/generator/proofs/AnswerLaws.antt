@@ -1,6 +1,6 @@
 -- What is printed for an input, from what it asks for.
 -- Assumes nothing.
-use Rattle.std.proofs.Common.{◌≡◌, ℕ, ◌≤◌, List, [], ◌∷◌, ◌++◌, length, drop, sym, ap, ◌∙◌, subst, arith, length-append}
+use Rattle.std.proofs.Common.{◌≡◌, ℕ, ◌≤◌, List, [], ◌∷◌, ◌++◌, length, drop, sym, ap, ◌∙◌, arith, length-append}
 use Rattle.text.specs.Lines.{letter_x, print_line}
 use Rattle.text.specs.WriteSteps.{Put}
 use Rattle.text.specs.ReadReplies.{written_over}
@@ -8,9 +8,6 @@ use Rattle.text.proofs.DecimalLaws.{decimal-length, two_size}
 use Rattle.text.proofs.PlacedLaws.{placed-start}
 use Rattle.generator.specs.Load.{load_text}
 use Rattle.generator.specs.Ask.{Asked, asked, turned_away, asked_in, shown_for, ShownReply, shown_reply_of, shown_reply}
-use Rattle.generator.specs.Steps.{asked_of, AskWithin}
-use Rattle.generator.specs.declared.ask.Ask.{Ask}
-use Rattle.generator.specs.declared.ask.Ask.TheVariants as a
 
 -- what stands from the buffer's beginning on
 shown_is : (input buffer : List ℕ) (what : Asked) {bytes : ℕ} {after : List ℕ} → asked_in input ≡ what → Put 0 (shown_for what) buffer after bytes → shown_reply_of bytes after ≡ shown_reply input buffer
@@ -19,15 +16,12 @@ shown_is input buffer what {bytes} {after} e p =
     let long : bytes ≡ length (shown_for what) = p.next-is ∙ omega arith in
     rw (e, long, p.written, placed-start (shown_for what) buffer)
 
-module _ {r : Ask} (input : List ℕ) (answered : asked_of r ≡ asked_in input) where
-  pub shown_load : {seed nodes nets bytes : ℕ} {buffer after : List ℕ} → r ≡ a.Load seed nodes nets → Put 0 (load_text seed nodes nets) buffer after bytes → shown_reply_of bytes after ≡ shown_reply input buffer
-  shown_load {seed} {nodes} {nets} {buffer = buffer} e p = shown_is input buffer (asked seed nodes nets) (sym answered ∙ ap asked_of e) p
+module _ (input : List ℕ) {bytes : ℕ} {buffer after : List ℕ} where
+  pub shown_load : {seed nodes nets : ℕ} → asked seed nodes nets ≡ asked_in input → Put 0 (load_text seed nodes nets) buffer after bytes → shown_reply_of bytes after ≡ shown_reply input buffer
+  shown_load {seed} {nodes} {nets} e p = shown_is input buffer (asked seed nodes nets) (sym e) p
 
-  pub shown_away : {place bytes : ℕ} {buffer after : List ℕ} → r ≡ a.TurnedAway place → Put 0 (print_line letter_x (17 ∷ place ∷ [])) buffer after bytes → shown_reply_of bytes after ≡ shown_reply input buffer
-  shown_away {place} {buffer = buffer} e p = shown_is input buffer (turned_away place) (sym answered ∙ ap asked_of e) p
-
-pub load_within : {r : Ask} {seed nodes nets : ℕ} → r ≡ a.Load seed nodes nets → AskWithin r → (8 ≤ nodes) × (nodes ≤ 256) × (1 ≤ nets) × (nets ≤ 64)
-load_within e w = subst AskWithin e w
+  pub shown_away : {place : ℕ} → turned_away place ≡ asked_in input → Put 0 (print_line letter_x (17 ∷ place ∷ [])) buffer after bytes → shown_reply_of bytes after ≡ shown_reply input buffer
+  shown_away {place} e p = shown_is input buffer (turned_away place) (sym e) p
 
 -- the line of a refusal is short
 pub line_size : (place : ℕ) → length (print_line letter_x (17 ∷ place ∷ [])) ≤ 44

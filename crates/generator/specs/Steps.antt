@@ -1,40 +1,39 @@
 -- What the contracts of private functions say.
 -- Assumes nothing.
-use Rattle.std.specs.Prelude.{◌≡◌, ℕ, ◌+◌, ◌-◌, ◌<◌, ◌≤◌, Bool, true, false, ◌⊎◌, List, [], ◌∷◌, ◌++◌, length, drop, ◌≢◌}
+use Rattle.std.specs.Prelude.{◌≡◌, ℕ, ◌+◌, ◌-◌, ◌<◌, ◌≤◌, Bool, true, false, ◌⊎◌, List, [], ◌∷◌, ◌++◌, length, drop, ◌≢◌, Option, Some, None, Result, Ok, Err}
 use Rattle.text.specs.Lines.{letter_n, letter_e, letter_s, letter_t, Field, number, fault, print_line}
 use Rattle.text.specs.Printed.{each_line}
 use Rattle.generator.specs.Draws.{draw_at}
 use Rattle.generator.specs.Load.{load_row, load_source, load_sink}
 use Rattle.generator.specs.Ask.{Asked, asked, turned_away}
 use Rattle.generator.specs.declared.ask.Field as field_type
-use Rattle.generator.specs.declared.ask.Field.TheVariants as f
-use Rattle.generator.specs.declared.ask.Ask.{Ask}
-use Rattle.generator.specs.declared.ask.Ask.TheVariants as a
+use Rattle.generator.specs.declared.ask.Load as load_type
+use Rattle.generator.specs.declared.ask.TurnedAway.{TurnedAway}
 
 -- ---- the input
 
-abbrev pub asked_field_at : List ℕ → field_type.Field → Field
-asked_field_at input (f.Number value next) = number value (drop next input)
-asked_field_at input f.Fault = fault
+abbrev pub asked_field_at : List ℕ → Option field_type.Field → Field
+asked_field_at input (Some field) = number field.value (drop field.next input)
+asked_field_at input None = fault
 
 -- a field that was read ends within the input
-abbrev pub AskedFieldPlace : List ℕ → field_type.Field → Type 0
-AskedFieldPlace input (f.Number value next) = next ≤ length input
-AskedFieldPlace input f.Fault = Unit {0}
+abbrev pub AskedFieldPlace : List ℕ → Option field_type.Field → Type 0
+AskedFieldPlace input (Some field) = field.next ≤ length input
+AskedFieldPlace input None = Unit {0}
 
 -- and its number lies within these bounds
-abbrev pub FieldWithin : ℕ → ℕ → List ℕ → field_type.Field → Type 0
-FieldWithin low high input (f.Number value next) = (next ≤ length input) × (low ≤ value) × (value ≤ high)
-FieldWithin low high input f.Fault = Unit {0}
+abbrev pub FieldWithin : ℕ → ℕ → List ℕ → Option field_type.Field → Type 0
+FieldWithin low high input (Some field) = (field.next ≤ length input) × (low ≤ field.value) × (field.value ≤ high)
+FieldWithin low high input None = Unit {0}
 
-abbrev pub asked_of : Ask → Asked
-asked_of (a.Load seed nodes nets) = asked seed nodes nets
-asked_of (a.TurnedAway place) = turned_away place
+abbrev pub asked_of : Result load_type.Load TurnedAway → Asked
+asked_of (Ok load) = asked load.seed load.nodes load.nets
+asked_of (Err away) = turned_away away.place
 
 -- what is asked for lies within its bounds
-abbrev pub AskWithin : Ask → Type 0
-AskWithin (a.Load seed nodes nets) = (8 ≤ nodes) × (nodes ≤ 256) × (1 ≤ nets) × (nets ≤ 64)
-AskWithin (a.TurnedAway place) = place ≤ 3
+abbrev pub AskWithin : Result load_type.Load TurnedAway → Type 0
+AskWithin (Ok load) = (8 ≤ load.nodes) × (load.nodes ≤ 256) × (1 ≤ load.nets) × (load.nets ≤ 64)
+AskWithin (Err away) = away.place ≤ 3
 
 -- ---- a node's targets
 

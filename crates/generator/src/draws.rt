@@ -21,10 +21,8 @@ pub fn steps(first: u32, count: u32) -> u32
     ensures { result ≡ state_after first count }
 {
     let mut state = first;
-    let mut k: u32 = 0;
-    while k < count {
+    for k in 0..count {
         state = step(state);
-        k += 1;
     }
     state
 }

@@ -13,13 +13,14 @@ mod nets;
 mod nodes;
 mod rows;
 
-use ask::Ask;
+use ask::Load;
 
 // Writes the text of a load.
-fn put_load(seed: u32, nodes: u32, nets: u32, buffer: &mut [u8]) -> usize
-    requires { (8 ≤ nodes) × (nodes ≤ 256) × (length (load_text seed nodes nets) ≤ length buffer.old) }
-    ensures { Put 0 (load_text seed nodes nets) buffer.old buffer.new result }
+fn put_load(load: Load, buffer: &mut [u8]) -> usize
+    requires { (8 ≤ load.nodes) × (load.nodes ≤ 256) × (length (load_text load.seed load.nodes load.nets) ≤ length buffer.old) }
+    ensures { Put 0 (load_text load.seed load.nodes load.nets) buffer.old buffer.new result }
 {
+    let Load { seed, nodes, nets } = load;
     let first_row = draws::steps(seed, nodes - 2 * (nodes / 4));
     let first_net = draws::steps(first_row, 3 * nodes);
     let edges = rows::edge_count(first_row, nodes);
@@ -44,7 +45,7 @@ pub fn load_text(input: &[u8], buffer: &mut [u8; 16384]) -> usize
     ensures answers { shown_reply_of result buffer.new ≡ shown_reply input.now buffer.old }
 {
     match ask::asked(input) {
-        Ask::Load { seed, nodes, nets } => put_load(seed, nodes, nets, buffer),
-        Ask::TurnedAway(place) => put_refusal(place, buffer),
+        Ok(load) => put_load(load, buffer),
+        Err(away) => put_refusal(away.place, buffer),
     }
 }

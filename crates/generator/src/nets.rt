@@ -25,14 +25,12 @@ pub fn put_nets(first: u32, nodes: u32, nets: u32, buffer: &mut [u8], start: usi
     let quarter = nodes / 4;
     let mut at = start;
     let mut state = first;
-    let mut i: u32 = 0;
-    while i < nets {
+    for i in 0..nets {
         let one = draws::step(state);
         state = draws::step(one);
         let source = draws::drawn(one, quarter);
         let sink = nodes - quarter + draws::drawn(state, quarter);
         at = put_net(i, source, sink, buffer, at);
-        i += 1;
     }
     at
 }

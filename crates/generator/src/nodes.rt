@@ -13,11 +13,9 @@ fn put_pins(kind: u32, from: u32, to: u32, buffer: &mut [u8], start: usize) -> u
     ensures { Put start (concat_from (node_line (λ v. kind)) from (to - from)) buffer.old buffer.new result }
 {
     let mut at = start;
-    let mut v = from;
-    while v < to {
+    for v in from..to {
         let fields = [v as u64, kind as u64, 1];
         at = text::print_line(b'N', &fields, buffer, at);
-        v += 1;
     }
     at
 }
@@ -30,13 +28,11 @@ fn put_wires(first: u32, from: u32, to: u32, buffer: &mut [u8], start: usize) ->
 {
     let mut at = start;
     let mut state = first;
-    let mut v = from;
-    while v < to {
+    for v in from..to {
         state = draws::step(state);
         let kind = 4 + draws::drawn(state, 12);
         let fields = [v as u64, kind as u64, 1];
         at = text::print_line(b'N', &fields, buffer, at);
-        v += 1;
     }
     at
 }

@@ -1,6 +1,6 @@
 -- The input's line, byte by byte: what each function of `ask` meets.
 -- Assumes nothing.
-use Rattle.std.proofs.Common.{◌≡◌, ℕ, zero, suc, ◌+◌, ◌-◌, ◌*◌, ◌^◌, ◌<◌, ◌≤◌, true, false, eqb, leb, List, ◌∷◌, length, get_or, drop, sym, refl, ap, ◌∙◌, subst}
+use Rattle.std.proofs.Common.{◌≡◌, ℕ, zero, suc, ◌+◌, ◌-◌, ◌*◌, ◌^◌, ◌<◌, ◌≤◌, true, false, eqb, leb, List, ◌∷◌, length, get_or, drop, sym, refl, ap, ◌∙◌, subst, ◌⊎◌, inl, inr}
 use Rattle.std.proofs.Common.{le_trans, mul-le-mul_right, mul_assoc, mul-le-mul, mul-le-mul_left, add-one, sub-one, arith, drop_of_length-le, drop-cons, drop-drop, eq-eqb, ne_eqb, le-leb}
 use native.Mathlib.Nat.{pow-succ', pow-le-pow_right}
 use borrow.Author.Tests.{lt-leb}
@@ -10,9 +10,6 @@ use Rattle.text.specs.Decimal.{is_digit}
 use Rattle.text.specs.Lines.{lf, comma, Field, number, fault, digits_after, begins}
 use Rattle.text.proofs.FieldLaws.{digit_most, after_none, after_other, after_digit}
 use Rattle.generator.specs.Ask.{number_up_to, field_ends, whole_field, next_field, asked, turned_away, ended, asked_in}
-use Rattle.generator.specs.Steps.{asked_field_at, AskedFieldPlace, FieldWithin}
-use Rattle.generator.specs.declared.ask.Field as field_type
-use Rattle.generator.specs.declared.ask.Field.TheVariants as f
 
 -- the bytes at a place, where there are some
 bytes-at : (at : ℕ) (input : List ℕ) → at < length input → drop at input ≡ get_or input at 0 ∷ drop (at + 1) input
@@ -25,15 +22,16 @@ module _ (at : ℕ) (input : List ℕ) where
   unfolding field_ends
   ends_past end = rw (drop_of_length-le input end)
 
-  pub ends_at : at < length input → field_ends (drop at input) ≡ either (eqb (get_or input at 0) comma) (eqb (get_or input at 0) lf)
+  ends_at : at < length input → field_ends (drop at input) ≡ either (eqb (get_or input at 0) comma) (eqb (get_or input at 0) lf)
   unfolding field_ends
   ends_at inside = rw (bytes-at at input inside)
 
-  pub ends-comma : at < length input → get_or input at 0 ≡ comma → field_ends (drop at input) ≡ true
-  ends-comma inside e = ends_at inside ∙ rw (eq-eqb (get_or input at 0) comma e)
+  pub ends_mark : at < length input → (get_or input at 0 ≡ lf) ⊎ (get_or input at 0 ≡ comma) → field_ends (drop at input) ≡ true
+  ends_mark inside (inl e) = ends_at inside ∙ rw e
+  ends_mark inside (inr e) = ends_at inside ∙ rw e
 
-  pub ends_other : at < length input → (get_or input at 0 ≡ comma → ⊥) → field_ends (drop at input) ≡ eqb (get_or input at 0) lf
-  ends_other inside n = ends_at inside ∙ rw (ne_eqb (get_or input at 0) comma n)
+  pub ends_other : at < length input → (get_or input at 0 ≡ comma → ⊥) → (get_or input at 0 ≡ lf → ⊥) → field_ends (drop at input) ≡ false
+  ends_other inside n m = ends_at inside ∙ rw (ne_eqb (get_or input at 0) comma n, ne_eqb (get_or input at 0) lf m)
 
 -- ---- the further digits of a number
 
@@ -142,19 +140,6 @@ module _ (more low high : ℕ) (bs : List ℕ) where
 pub next-comma : (more low high at : ℕ) (input : List ℕ) → begins comma (drop at input) ≡ true → next_field more low high (drop at input) ≡ whole_field more low high (drop (at + 1) input)
 unfolding next_field
 next-comma more low high at input e = rw e (ap (whole_field more low high) (drop-drop 1 at input))
-
--- what an answer says of the field
-pub read_is : (input : List ℕ) {r : field_type.Field} {value next : ℕ} {said : Field} → r ≡ f.Number value next → asked_field_at input r ≡ said → said ≡ number value (drop next input)
-read_is input e p = sym p ∙ ap (asked_field_at input) e
-
-pub read_fault : (input : List ℕ) {r : field_type.Field} {said : Field} → r ≡ f.Fault → asked_field_at input r ≡ said → said ≡ fault
-read_fault input e p = sym p ∙ ap (asked_field_at input) e
-
-pub read_place : (input : List ℕ) {r : field_type.Field} {value next : ℕ} → r ≡ f.Number value next → AskedFieldPlace input r → next ≤ length input
-read_place input e p = subst (AskedFieldPlace input) e p
-
-pub read_within : (low high : ℕ) (input : List ℕ) {r : field_type.Field} {value next : ℕ} → r ≡ f.Number value next → FieldWithin low high input r → (next ≤ length input) × (low ≤ value) × (value ≤ high)
-read_within low high input e p = subst (FieldWithin low high input) e p
 
 -- ---- the line
 

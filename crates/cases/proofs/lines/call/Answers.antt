@@ -7,8 +7,5 @@ use Rattle.cases.proofs.lines.call.Goals as goal
 pub returns-then-case-at : goal.returns-then-case-at
 returns-then-case-at c = let a = c.args in letter_past a.case.now a.letter c.line-at.ensures (search rules)
 
-pub returns-then-case-at-2 : goal.returns-then-case-at-2
-returns-then-case-at-2 c = let a = c.args in letter_past a.case.now a.letter c.line-at.ensures (search rules)
-
 pub returns : goal.returns
 returns c = let a = c.args in letter_there a.case.now a.letter c.line-at.ensures

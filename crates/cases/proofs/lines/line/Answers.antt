@@ -1,26 +1,26 @@
--- `cases::lines::line` meets its contract: the line wanted is so many lines on from where it is. The measure is the number of lines that are left.
+-- `cases::lines::line` meets its contract: the line wanted is so many lines on from where it is.
 -- Assumes nothing.
-use Rattle.std.proofs.Common.{◌≡◌, ℕ, ◌-◌, sym, refl, ap, ◌∙◌, rules}
+use Rattle.std.proofs.Common.{◌≡◌, ◌<◌, ℕ, ◌-◌, ◌+◌, sym, ap, ◌∙◌, arith}
 use Rattle.cases.specs.Lines.{line_from}
 use Rattle.cases.proofs.LineLaws.{from_past, from_next, from_here}
 use Rattle.cases.proofs.lines.line.Goals as goal
 
-pub loop-left-init : goal.loop-left-init
-loop-left-init c = refl
+pub loop-init : goal.loop-init
+loop-init c = ap (λ (n : ℕ). line_from c.args.case.now 0 n) (omega arith)
 
 pub returns-then-case-at : goal.returns-then-case-at
 returns-then-case-at c =
-    let text = c.args.case.now in
-    sym (from_past text c.loop-left.at c.loop-left.left c.if-case-at.true) ∙ c.loop-left.invariant
+    sym (from_past c.args.case.now c.loop.at (c.args.number - c.loop.counter) c.if-case-at.true) ∙ c.loop.invariant
 
-pub loop-left-preserved : goal.loop-left-preserved
-loop-left-preserved c =
+pub loop-preserved : goal.loop-preserved
+loop-preserved c =
     let text = c.args.case.now in
-    ap (λ (at : ℕ). line_from text at (c.loop-left.left - 1)) c.next_line-at.ensures.value
-    ∙ sym (from_next text c.loop-left.at c.loop-left.left c.loop-left-test.true) ∙ c.loop-left.invariant
+    let left = c.args.number - c.loop.counter in
+    let more : c.args.number - (c.loop.counter + 1) ≡ left - 1 = omega arith in
+    let some : 0 < left = omega (arith, c.loop-test.true) in
+    rw (more, c.next_line-at.ensures.value) (sym (from_next text c.loop.at left some) ∙ c.loop.invariant)
 
 pub returns : goal.returns
 returns c =
-    let text = c.args.case.now in
-    let none : c.loop-left.left ≡ 0 = search rules in
-    from_here text c.loop-left.at c.loop-left.left none ∙ c.loop-left.invariant
+    let none : c.args.number - c.loop.counter ≡ 0 = omega (arith, c.loop-test.false) in
+    from_here c.args.case.now c.loop.at (c.args.number - c.loop.counter) none ∙ c.loop.invariant

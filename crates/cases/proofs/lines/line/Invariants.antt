@@ -1,11 +1,8 @@
--- `cases::lines::line` meets its contract: the line wanted is so many lines on from where it is. The measure is the number of lines that are left.
+-- `cases::lines::line` meets its contract: the line wanted is so many lines on from where it is.
 -- Assumes nothing.
-use Rattle.std.proofs.Common.{◌≡◌}
+use Rattle.std.proofs.Common.{◌≡◌, ◌-◌}
 use Rattle.cases.specs.Lines.{line_from}
 use Rattle.cases.proofs.lines.line.Given as goal
 
-abbrev pub invariant-loop-left : goal.invariant-loop-left
-invariant-loop-left l = line_from l.case l.at l.left ≡ line_from l.case 0 l.number
-
-abbrev pub decreases-loop-left : goal.decreases-loop-left
-decreases-loop-left l = l.left
+abbrev pub invariant-loop : goal.invariant-loop
+invariant-loop l = line_from l.case l.at (l.number - l.counter) ≡ line_from l.case 0 l.number

@@ -1,4 +1,4 @@
--- `cases::lines::next_line` meets its contract: it goes on to the first LF. The measure is what is left of the text.
+-- `cases::lines::next_line` meets its contract: it goes on to the first LF.
 -- Assumes nothing.
 use Rattle.cases.proofs.LineLaws.{in_line, lf-found, in_line-on, text_ends}
 use Rattle.cases.proofs.lines.next_line.Goals as goal
@@ -15,6 +15,4 @@ pub loop-k-preserved : goal.loop-k-preserved
 loop-k-preserved c = in_line-on c.loop-k.invariant c.loop-k-test.true c.if-text-k-eq10.false
 
 pub returns : goal.returns
-returns c =
-    let ends = text_ends c.loop-k.invariant c.loop-k-test.false c.requires in
-    record { value = ends.0; lower_bound = ends.1 }
+returns c = record { value = text_ends c.loop-k.invariant c.loop-k-test.false; lower_bound = c.requires }

@@ -32,4 +32,4 @@ pub further_digits-requires : goal.further_digits-requires
 further_digits-requires c = (search rules, omega (arith, digit_most _ (digit c)), search rules)
 
 pub returns : goal.returns
-returns c = record { value = c.further_digits.ensures.value ∙ sym (number_digits _ c.args.at c.args.input.now (search rules) (search rules) (digit (goal.at.returns c).Else-not-is_digit)); asked_field_place = c.further_digits.ensures.asked_field_place }
+returns c = record { value = c.further_digits.ensures.value ∙ sym (number_digits _ c.args.at c.args.input.now (search rules) (search rules) (digit (goal.at.returns c).Else-not-is_digit)); asked_field_place = c.further_digits.ensures.field_within }

@@ -8,6 +8,3 @@ use Rattle.generator.proofs.nets.put_nets.Given as goal
 
 abbrev pub invariant-loop-i : goal.invariant-loop-i
 invariant-loop-i l = (l.state ≡ state_after l.first (2 * l.i)) × Joining (net_lines l.first l.nodes) 0 l.nets l.start l.initial.buffer l.buffer l.at l.i
-
-abbrev pub decreases-loop-i : goal.decreases-loop-i
-decreases-loop-i l = l.nets - l.i

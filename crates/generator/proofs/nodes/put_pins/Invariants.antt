@@ -7,6 +7,3 @@ use Rattle.generator.proofs.nodes.put_pins.Given as goal
 
 abbrev pub invariant-loop-v : goal.invariant-loop-v
 invariant-loop-v l = Joining (node_line (λ u. l.kind)) l.from l.to l.start l.initial.buffer l.buffer l.at l.v
-
-abbrev pub decreases-loop-v : goal.decreases-loop-v
-decreases-loop-v l = l.to - l.v

@@ -8,6 +8,3 @@ use Rattle.generator.proofs.nodes.put_wires.Given as goal
 
 abbrev pub invariant-loop-v : goal.invariant-loop-v
 invariant-loop-v l = (l.state ≡ state_after l.first (l.v - l.from)) × Joining (node_line (wire_kind l.first l.from)) l.from l.to l.start l.initial.buffer l.buffer l.at l.v
-
-abbrev pub decreases-loop-v : goal.decreases-loop-v
-decreases-loop-v l = l.to - l.v
