@@ -52,11 +52,11 @@ impl From<LineRefusal> for ReadRefusal {
 }
 
 impl From<ReadRefusal> for Refused {
-    ghost use Rattle.std.specs.Prelude.{Err, ◌≡◌};
+    ghost use Rattle.std.specs.Prelude.{◌≡◌};
     ghost use Rattle.job.specs.Refused.{refused_numbers};
-    ghost use Rattle.text.specs.ReadReplies.{read_refusal};
+    ghost use Rattle.text.specs.ReadReplies.{refusal_numbers};
 
-    ghost from_gives = { λ refusal refused. refused_numbers refused ≡ read_refusal (Err refusal) };
+    ghost from_gives = { λ refusal refused. refused_numbers refused ≡ refusal_numbers refusal };
 
     fn from(refusal: ReadRefusal) -> Refused {
         let (number, first, second) = match refusal {
