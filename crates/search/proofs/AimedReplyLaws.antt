@@ -11,7 +11,7 @@ use lib.ListN.{length, get_or, take, drop, replicate}
 use lib.Seq.{take_at}
 use borrow.Author.Tests.{eq-eqb, ne_eqb}
 use Rattle.price.specs.Test.{both}
-use Rattle.price.proofs.TestLaws.{both_right, true≢false}
+use Rattle.price.proofs.TestLaws.{both_right}
 use Rattle.price.proofs.ListLaws.{drop-same}
 use Rattle.search.specs.Block.{Block, block_of, graph_of, row, has_edge}
 use Rattle.search.specs.Paths.{Fair}
