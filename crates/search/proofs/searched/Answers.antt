@@ -18,7 +18,7 @@ distances_from_tree-requires c =
 pub returns-in_err-faulty_with_delays : goal.returns-in_err-faulty_with_delays
 returns-in_err-faulty_with_delays c =
     let h = search_both _ _ _ _ _ _ _ c.from_residual.result _
-      (search_refused _ _ _ _ _ _ _ c.from_residual.result c.from_residual.ensures.0 (refused_table _ _ _ _ _ _ (sym (c.in_err-faulty_with_delays.ensures _ _ _)) c.from_residual.ensures.1)) in
+    (search_refused _ _ _ _ _ _ _ c.from_residual.result c.from_residual.ensures.0 (refused_table _ _ _ _ _ _ (sym (c.in_err-faulty_with_delays.ensures _ _ _)) c.from_residual.ensures.1)) in
     record { answers = h.0; distances = h.1 }
 
 pub returns-in_err-first_refusal : goal.returns-in_err-first_refusal
