@@ -33,11 +33,13 @@ pub struct JobTables<'a> {
 mod first_net;
 mod job_terms;
 mod pins;
+mod refused;
 mod tables;
 
 pub use first_net::first_of;
 pub use job_terms::{exceeds, plain_terms, rule_sound, terms_sound};
 pub use pins::{sink_kind, source_kind};
 pub use price::{Tuning, tuning_sound};
+pub use refused::Refused;
 pub use search::{BadTable, Tables};
 pub use tables::{faulty_block, faulty_job, sources_sound};
