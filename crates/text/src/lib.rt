@@ -146,6 +146,7 @@ mod timed;
 mod tuning;
 mod users;
 
+use copy::JobRead;
 pub use fields::byte_is;
 use job::{FIRST_SINKS_MOST, NETS_MOST, Refused, Terms};
 use latest::Latest;
@@ -241,15 +242,7 @@ fn if_timed(timed: bool, count: usize) -> usize
 // bounds is refused after that.
 fn store_job(
     counts: JobCounts,
-    kinds: &[u8],
-    capacities: &[u8],
-    first_edges: &[u32],
-    edge_targets: &[u16],
-    sources: &[u16],
-    first_sinks: &[u32],
-    sinks: &[u16],
-    delays: &[u16],
-    criticalities: &[u8],
+    read: &JobRead,
     kind: &mut [u8],
     capacity: &mut [u8],
     first_edge: &mut [u32],
@@ -260,27 +253,21 @@ fn store_job(
     delay: &mut [u16],
     criticality: &mut [u8],
 ) -> Result<JobCounts, ReadRefusal>
-    requires room_for_all { RoomForAll kinds.now capacities.now first_edges.now edge_targets.now
-        sources.now first_sinks.now sinks.now delays.now criticalities.now }
+    requires room_for_all { RoomForAll read.now.kind.now read.now.capacity.now read.now.first_edge.now read.now.edge_target.now
+        read.now.source.now read.now.first_sink.now read.now.sink.now read.now.delay.now read.now.criticality.now }
     requires counts_within { CountsWithin counts.nodes counts.edges counts.nets × (counts.sinks ≤ sinks_most) }
-    ensures { let job = job_taken counts kinds.now capacities.now first_edges.now
-        edge_targets.now sources.now first_sinks.now sinks.now
-        delays.now criticalities.now in
+    ensures { let job = job_taken counts read.now.kind.now read.now.capacity.now read.now.first_edge.now
+        read.now.edge_target.now read.now.source.now read.now.first_sink.now read.now.sink.now
+        read.now.delay.now read.now.criticality.now in
         let tables = tables_of kind.old capacity.old first_edge.old edge_target.old
         source.old first_sink.old sink.old delay.old criticality.old in
         let left = tables_of kind.new capacity.new first_edge.new edge_target.new
         source.new first_sink.new sink.new delay.new criticality.new in
         read_reply_of result left ≡ stored_reply job tables }
 {
-    let JobCounts {
-        nodes,
-        edges,
-        nets,
-        sinks: count,
-        terms,
-    } = counts;
-    let delays_due = if_timed(terms.timed, nodes);
-    let criticalities_due = if_timed(terms.timed, count);
+    let terms = counts.terms;
+    let delays_due = if_timed(terms.timed, counts.nodes);
+    let criticalities_due = if_timed(terms.timed, counts.sinks);
     let lent = Lengths {
         kind: kind.len(),
         capacity: capacity.len(),
@@ -295,42 +282,15 @@ fn store_job(
     if let Some(table) = lowest_short(counts, delays_due, criticalities_due, lent) {
         return Err(ReadRefusal::ShortTable(table));
     }
-    if job::exceeds(nodes, terms) {
+    if job::exceeds(counts.nodes, terms) {
         return Err(ReadRefusal::TooLarge {
-            nodes,
+            nodes: counts.nodes,
             limit: terms.limit,
         });
     }
-    copy::copy_block(
-        nodes,
-        edges,
-        kinds,
-        capacities,
-        first_edges,
-        edge_targets,
-        kind,
-        capacity,
-        first_edge,
-        edge_target,
-    );
-    copy::copy_nets(
-        nets,
-        count,
-        sources,
-        first_sinks,
-        sinks,
-        source,
-        first_sink,
-        sink,
-    );
-    copy::copy_times(
-        delays_due,
-        criticalities_due,
-        delays,
-        criticalities,
-        delay,
-        criticality,
-    );
+    copy::copy_block(counts, read, kind, capacity, first_edge, edge_target);
+    copy::copy_nets(counts, read, source, first_sink, sink);
+    copy::copy_times(delays_due, criticalities_due, read, delay, criticality);
     Ok(counts)
 }
 
@@ -375,17 +335,20 @@ pub fn read_job(
         &mut delays,
         &mut criticalities,
     )?;
+    let read = JobRead {
+        kind: &kinds,
+        capacity: &capacities,
+        first_edge: &first_edges,
+        edge_target: &edge_targets,
+        source: &sources,
+        first_sink: &first_sinks,
+        sink: &sinks_read,
+        delay: &delays,
+        criticality: &criticalities,
+    };
     store_job(
         counts,
-        &kinds,
-        &capacities,
-        &first_edges,
-        &edge_targets,
-        &sources,
-        &first_sinks,
-        &sinks_read,
-        &delays,
-        &criticalities,
+        &read,
         kind,
         capacity,
         first_edge,
