@@ -13,8 +13,7 @@
 --     OptionalLineLaws  a line that may be left out: P, V and W
 --     NetLineLaws       an S or a T line
 -- The whole text, for the functions that read it:
---     StoppedLaws       a text that is stopped at a line is refused by 1, 2 or 3
---     CopyLaws          copying the first entries of a table
+--     CopyLaws          copying the first entries of a table one by one, for the crates above
 --     ReadJobLaws       row 4, then 15, and the tables afterwards
 --     SizeLaws          which jobs tables are long enough for, and how long what the program lends is
 -- What is read against what is printed, for TextHolds:
@@ -51,7 +50,6 @@ pub mod JudgedLaws
 pub mod OptionalLineLaws
 pub mod NetLineLaws
 pub mod CopyLaws
-pub mod StoppedLaws
 pub mod ReadJobLaws
 pub mod SizeLaws
 pub mod DecimalLaws

@@ -5,25 +5,27 @@ ghost use Rattle.std.specs.Prelude.{[], ◌∷◌, ◌≡◌, ◌≤◌, length}
 ghost use Rattle.search.specs.Replies.{sinks_most};
 ghost use Rattle.price.specs.Bounds.{nodes_most};
 ghost use Rattle.price.specs.Test.{choose};
-ghost use Rattle.text.specs.ReadReplies.{Tables, tables_of, lowest_short, short_times, not_read, stored_reply, read_reply, read_reply_of};
-ghost use Rattle.text.specs.ReadSteps.{lowest_of_nine, RoomForAll, CountsWithin, job_taken, LineRow};
+ghost use Rattle.text.specs.ReadReplies.{tables_of, lowest_short, short_times, stored_reply, read_reply, read_reply_of};
+ghost use Rattle.text.specs.ReadSteps.{table_number, Named, lowest_of_nine, RoomForAll, CountsWithin, job_taken, line_refusal};
 ghost use Rattle.text.specs.Routes.{text_reply, write_reply, write_reply_of};
 ghost use Rattle.text.specs.Dot.{text_in, dot_reply, style_reply};
 ghost use Rattle.text.specs.WriteSteps.{Filled, LogTested, LatestPlaces};
 ghost use Rattle.negotiation.specs.Records.{decode};
 ghost use Rattle.job.specs.Tables.{nets_most};
 
-// What the reader answers.
+// The counts of a job that was read, which the tables now hold, and its terms.
 #[derive(Clone, Copy)]
-pub enum ReadAnswer {
-    // The counts of the job, which the tables now hold, and its terms.
-    Job {
-        nodes: usize,
-        edges: usize,
-        nets: usize,
-        sinks: usize,
-        terms: Terms,
-    },
+pub struct JobCounts {
+    pub nodes: usize,
+    pub edges: usize,
+    pub nets: usize,
+    pub sinks: usize,
+    pub terms: Terms,
+}
+
+// Why the reader refuses a text.
+#[derive(Clone, Copy, Debug, PartialEq, Eq)]
+pub enum ReadRefusal {
     // 1: this line is of wrong shape or missing.
     Malformed(usize),
     // 2: this line has a value beyond its bounds.
@@ -33,10 +35,20 @@ pub enum ReadAnswer {
     // 4: this table is too short for the job.
     ShortTable(u32),
     // 15: a timed job has more nodes, or a larger limit, than it may.
-    TooLarge {
-        nodes: usize,
-        limit: u32,
-    },
+    TooLarge { nodes: usize, limit: u32 },
+}
+
+impl From<LineRefusal> for ReadRefusal {
+    ghost from_gives = { λ a b. b ≡ line_refusal a };
+
+    fn from(refusal: LineRefusal) -> ReadRefusal {
+        let line = refusal.line;
+        match refusal.fault {
+            LineFault::Malformed => ReadRefusal::Malformed(line),
+            LineFault::BeyondBounds => ReadRefusal::BeyondBounds(line),
+            LineFault::WrongOrder => ReadRefusal::WrongOrder(line),
+        }
+    }
 }
 
 // The two texts of a log: the lines of its routes, or their picture.
@@ -103,6 +115,7 @@ mod nets;
 mod nodes;
 mod optional;
 mod parts;
+mod place;
 mod printing;
 mod reader;
 mod rule;
@@ -110,78 +123,19 @@ mod timed;
 mod tuning;
 mod users;
 
+use copy::JobRead;
 pub use fields::byte_is;
 use job::{FIRST_SINKS_MOST, NETS_MOST, Refused, Terms};
 use latest::Latest;
 pub use log_check::{SoundLog, UnsoundLog};
+use place::{LineFault, LineRefusal};
 pub use printing::print_line;
-use reader::JobLines;
 use search::{EDGES_MOST, FIRST_EDGES_MOST, NODES_MOST, SINKS_MOST};
 pub use users::node_users;
 
-// The lowest of tables 1 to 7 that is shorter than the job needs, 0 if each is long enough.
-fn short_table(
-    nodes: usize,
-    edges: usize,
-    nets: usize,
-    sinks: usize,
-    kind: usize,
-    capacity: usize,
-    first_edge: usize,
-    edge_target: usize,
-    source: usize,
-    first_sink: usize,
-    sink: usize,
-) -> u32
-    requires { (nodes ≤ nodes_most) × (nets ≤ nets_most) }
-    ensures { result
-        ≡ lowest_short nodes edges nets sinks kind capacity first_edge edge_target source first_sink sink }
-{
-    if kind < nodes {
-        return 1;
-    }
-    if capacity < nodes {
-        return 2;
-    }
-    if first_edge < nodes + 1 {
-        return 3;
-    }
-    if edge_target < edges {
-        return 4;
-    }
-    if source < nets {
-        return 5;
-    }
-    if first_sink < nets + 1 {
-        return 6;
-    }
-    if sink < sinks {
-        return 7;
-    }
-    0
-}
-
-// The same of tables 9 and 10.
-fn short_times(nodes: usize, sinks: usize, delay: usize, criticality: usize) -> u32
-    ensures { result ≡ short_times nodes sinks delay criticality }
-{
-    if delay < nodes {
-        return 9;
-    }
-    if criticality < sinks {
-        return 10;
-    }
-    0
-}
-
-// The lowest of all tables, of which 9 and 10 need this many delays and criticalities.
-fn lowest_short(
-    nodes: usize,
-    edges: usize,
-    nets: usize,
-    sinks: usize,
-    delays: usize,
-    criticalities: usize,
+// How many entries each of the lent tables has.
+#[derive(Clone, Copy)]
+struct Lengths {
     kind: usize,
     capacity: usize,
     first_edge: usize,
@@ -191,28 +145,67 @@ fn lowest_short(
     sink: usize,
     delay: usize,
     criticality: usize,
-) -> u32
-    requires { (nodes ≤ nodes_most) × (nets ≤ nets_most) }
-    ensures { let first = lowest_short nodes edges nets sinks kind capacity first_edge edge_target source first_sink sink in
-        result ≡ lowest_of_nine first (short_times delays criticalities delay criticality) }
+}
+
+// The lowest of tables 1 to 7 that is shorter than the job needs.
+fn short_table(counts: JobCounts, lent: Lengths) -> Option<u32>
+    requires { (counts.nodes ≤ nodes_most) × (counts.nets ≤ nets_most) }
+    ensures number { table_number result ≡ lowest_short counts.nodes counts.edges counts.nets counts.sinks lent.kind lent.capacity
+        lent.first_edge lent.edge_target lent.source lent.first_sink lent.sink }
+    ensures named { Named result }
 {
-    let table = short_table(
-        nodes,
-        edges,
-        nets,
-        sinks,
-        kind,
-        capacity,
-        first_edge,
-        edge_target,
-        source,
-        first_sink,
-        sink,
-    );
-    if 1 <= table {
-        return table;
+    if lent.kind < counts.nodes {
+        return Some(1);
     }
-    short_times(delays, criticalities, delay, criticality)
+    if lent.capacity < counts.nodes {
+        return Some(2);
+    }
+    if lent.first_edge < counts.nodes + 1 {
+        return Some(3);
+    }
+    if lent.edge_target < counts.edges {
+        return Some(4);
+    }
+    if lent.source < counts.nets {
+        return Some(5);
+    }
+    if lent.first_sink < counts.nets + 1 {
+        return Some(6);
+    }
+    if lent.sink < counts.sinks {
+        return Some(7);
+    }
+    None
+}
+
+// The same of tables 9 and 10, which need this many delays and criticalities.
+fn short_times(delays: usize, criticalities: usize, lent: Lengths) -> Option<u32>
+    ensures number { table_number result ≡ short_times delays criticalities lent.delay lent.criticality }
+    ensures named { Named result }
+{
+    if lent.delay < delays {
+        return Some(9);
+    }
+    if lent.criticality < criticalities {
+        return Some(10);
+    }
+    None
+}
+
+// The lowest of all tables.
+fn lowest_short(
+    counts: JobCounts,
+    delays: usize,
+    criticalities: usize,
+    lent: Lengths,
+) -> Option<u32>
+    requires { (counts.nodes ≤ nodes_most) × (counts.nets ≤ nets_most) }
+    ensures number { let first = lowest_short counts.nodes counts.edges counts.nets counts.sinks lent.kind lent.capacity
+        lent.first_edge lent.edge_target lent.source lent.first_sink lent.sink in
+        table_number result ≡ lowest_of_nine first (short_times delays criticalities lent.delay lent.criticality) }
+    ensures named { Named result }
+{
+    short_table(counts, lent).or(short_times(delays, criticalities, lent))
 }
 
 // This many entries of a table that only timed jobs have.
@@ -225,20 +218,8 @@ fn if_timed(timed: bool, count: usize) -> usize
 // Writes the job that was read into the tables that were lent, or names the lowest that is too short for it. A timed job that exceeds its
 // bounds is refused after that.
 fn store_job(
-    nodes: usize,
-    edges: usize,
-    nets: usize,
-    count: usize,
-    terms: Terms,
-    kinds: &[u8],
-    capacities: &[u8],
-    first_edges: &[u32],
-    edge_targets: &[u16],
-    sources: &[u16],
-    first_sinks: &[u32],
-    sinks: &[u16],
-    delays: &[u16],
-    criticalities: &[u8],
+    counts: JobCounts,
+    read: &JobRead,
     kind: &mut [u8],
     capacity: &mut [u8],
     first_edge: &mut [u32],
@@ -248,96 +229,46 @@ fn store_job(
     sink: &mut [u16],
     delay: &mut [u16],
     criticality: &mut [u8],
-) -> ReadAnswer
-    requires room_for_all { RoomForAll kinds.now capacities.now first_edges.now edge_targets.now
-        sources.now first_sinks.now sinks.now delays.now criticalities.now }
-    requires counts_within { CountsWithin nodes edges nets × (count ≤ sinks_most) }
-    ensures { let job = job_taken nodes edges nets count terms kinds.now capacities.now first_edges.now
-        edge_targets.now sources.now first_sinks.now sinks.now
-        delays.now criticalities.now in
+) -> Result<JobCounts, ReadRefusal>
+    requires room_for_all { RoomForAll read.now.kind.now read.now.capacity.now read.now.first_edge.now read.now.edge_target.now
+        read.now.source.now read.now.first_sink.now read.now.sink.now read.now.delay.now read.now.criticality.now }
+    requires counts_within { CountsWithin counts.nodes counts.edges counts.nets × (counts.sinks ≤ sinks_most) }
+    ensures { let job = job_taken counts read.now.kind.now read.now.capacity.now read.now.first_edge.now
+        read.now.edge_target.now read.now.source.now read.now.first_sink.now read.now.sink.now
+        read.now.delay.now read.now.criticality.now in
         let tables = tables_of kind.old capacity.old first_edge.old edge_target.old
         source.old first_sink.old sink.old delay.old criticality.old in
         let left = tables_of kind.new capacity.new first_edge.new edge_target.new
         source.new first_sink.new sink.new delay.new criticality.new in
         read_reply_of result left ≡ stored_reply job tables }
 {
-    let delays_due = if_timed(terms.timed, nodes);
-    let criticalities_due = if_timed(terms.timed, count);
-    let table = lowest_short(
-        nodes,
-        edges,
-        nets,
-        count,
-        delays_due,
-        criticalities_due,
-        kind.len(),
-        capacity.len(),
-        first_edge.len(),
-        edge_target.len(),
-        source.len(),
-        first_sink.len(),
-        sink.len(),
-        delay.len(),
-        criticality.len(),
-    );
-    if 1 <= table {
-        return ReadAnswer::ShortTable(table);
+    let terms = counts.terms;
+    let delays_due = if_timed(terms.timed, counts.nodes);
+    let criticalities_due = if_timed(terms.timed, counts.sinks);
+    let lent = Lengths {
+        kind: kind.len(),
+        capacity: capacity.len(),
+        first_edge: first_edge.len(),
+        edge_target: edge_target.len(),
+        source: source.len(),
+        first_sink: first_sink.len(),
+        sink: sink.len(),
+        delay: delay.len(),
+        criticality: criticality.len(),
+    };
+    if let Some(table) = lowest_short(counts, delays_due, criticalities_due, lent) {
+        return Err(ReadRefusal::ShortTable(table));
     }
-    if job::exceeds(nodes, terms) {
-        return ReadAnswer::TooLarge {
-            nodes: nodes,
+    if job::exceeds(counts.nodes, terms) {
+        return Err(ReadRefusal::TooLarge {
+            nodes: counts.nodes,
             limit: terms.limit,
-        };
+        });
     }
-    copy::copy_block(
-        nodes,
-        edges,
-        kinds,
-        capacities,
-        first_edges,
-        edge_targets,
-        kind,
-        capacity,
-        first_edge,
-        edge_target,
-    );
-    copy::copy_nets(
-        nets,
-        count,
-        sources,
-        first_sinks,
-        sinks,
-        source,
-        first_sink,
-        sink,
-    );
-    copy::copy_times(
-        delays_due,
-        criticalities_due,
-        delays,
-        criticalities,
-        delay,
-        criticality,
-    );
-    ReadAnswer::Job {
-        nodes: nodes,
-        edges: edges,
-        nets: nets,
-        sinks: count,
-        terms: terms,
-    }
-}
-
-// The answer at a line that is refused by this number.
-fn bad_line(number: u32, line: usize) -> ReadAnswer
-    requires { LineRow number }
-    ensures { (t : Tables) → read_reply_of result t ≡ not_read (number ∷ line ∷ []) t }
-{
-    match number {
-        1 => ReadAnswer::Malformed(line),
-        2 => ReadAnswer::BeyondBounds(line),
-        _ => ReadAnswer::WrongOrder(line),
-    }
+    copy::copy_block(counts, read, kind, capacity, first_edge, edge_target);
+    copy::copy_nets(counts, read, source, first_sink, sink);
+    copy::copy_times(delays_due, criticalities_due, read, delay, criticality);
+    Ok(counts)
 }
 
 // Reads a job text into the nine tables, each of which may be longer than the job needs. Delays and criticalities are written only for a
@@ -353,7 +284,7 @@ pub fn read_job(
     sink: &mut [u16],
     delay: &mut [u16],
     criticality: &mut [u8],
-) -> ReadAnswer
+) -> Result<JobCounts, ReadRefusal>
     ensures answers { let tables = tables_of kind.old capacity.old first_edge.old edge_target.old
         source.old first_sink.old sink.old delay.old criticality.old in
         let left = tables_of kind.new capacity.new first_edge.new edge_target.new
@@ -369,7 +300,7 @@ pub fn read_job(
     let mut sinks_read = [0u16; SINKS_MOST];
     let mut delays = [0u16; NODES_MOST];
     let mut criticalities = [0u8; SINKS_MOST];
-    match reader::read_lines(
+    let counts = reader::read_lines(
         text,
         &mut kinds,
         &mut capacities,
@@ -380,41 +311,31 @@ pub fn read_job(
         &mut sinks_read,
         &mut delays,
         &mut criticalities,
-    ) {
-        JobLines::Counts {
-            nodes,
-            edges,
-            nets,
-            sinks,
-            terms,
-            line: _,
-        } => store_job(
-            nodes,
-            edges,
-            nets,
-            sinks,
-            terms,
-            &kinds,
-            &capacities,
-            &first_edges,
-            &edge_targets,
-            &sources,
-            &first_sinks,
-            &sinks_read,
-            &delays,
-            &criticalities,
-            kind,
-            capacity,
-            first_edge,
-            edge_target,
-            source,
-            first_sink,
-            sink,
-            delay,
-            criticality,
-        ),
-        JobLines::Stopped { number, line } => bad_line(number, line),
-    }
+    )?;
+    let read = JobRead {
+        kind: &kinds,
+        capacity: &capacities,
+        first_edge: &first_edges,
+        edge_target: &edge_targets,
+        source: &sources,
+        first_sink: &first_sinks,
+        sink: &sinks_read,
+        delay: &delays,
+        criticality: &criticalities,
+    };
+    store_job(
+        counts,
+        &read,
+        kind,
+        capacity,
+        first_edge,
+        edge_target,
+        source,
+        first_sink,
+        sink,
+        delay,
+        criticality,
+    )
 }
 
 // A text of a sound log: its parts one after the other, which are counted, and written if the buffer has room.
