@@ -1,6 +1,6 @@
 -- What the loops before and after the labels keep from turn to turn: the tree's nodes, the goals, the least price of a goal, the first node of a label.
 -- Assumes nothing.
-use mathlib.Core.Bool.{Bool, true, false}
+use mathlib.Core.Bool.{false}
 use mathlib.Core.List.{List, ◌++◌}
 use mathlib.Core.Logic.{⊎_elim, inl, inr}
 use mathlib.Core.Path.{◌≡◌, refl, sym, ◌∙◌, ap}
@@ -13,7 +13,7 @@ use borrow.Author.Tests.{le-leb, lt-leb}
 use Rattle.price.specs.Test.{choose}
 use Rattle.price.specs.Lists.{count_below}
 use Rattle.price.proofs.BelowLaws.{count_same}
-use Rattle.price.proofs.TestLaws.{le_or_lt, true≢false, same_or_not}
+use Rattle.price.proofs.TestLaws.{le_or_lt, same_or_not}
 use Rattle.search.specs.Distance.{far, tree_has}
 use Rattle.search.specs.Paths.{any_price_most}
 use Rattle.search.specs.Labels.{goal, label_at, wait_at, beside_at, put, Waits}

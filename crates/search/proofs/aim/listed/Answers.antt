@@ -1,6 +1,6 @@
 -- `search::aim::listed` meets its contract. The invariant: u stands at no place of row v before e.
 -- Assumes nothing.
-use Rattle.search.proofs.aim.ListedLaws.{not_begin, not_more, is-listed, not_listed}
+use Rattle.search.proofs.aim.ListedLaws.{is-listed, not_listed}
 use Rattle.search.proofs.aim.listed.Goals as goal
 
 pub returns-then-back-e : goal.returns-then-back-e

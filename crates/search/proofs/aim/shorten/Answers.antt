@@ -4,8 +4,8 @@ use mathlib.Core.Path.{◌≡◌, ◌∙◌}
 use native.Mathlib.Omega.{arith}
 use Rattle.search.specs.Distance.{far}
 use Rattle.search.specs.Layout.{estimate_at}
-use Rattle.search.proofs.aim.ShortenLaws.{same-estimate, shortened_lacks, shortened_waits}
-use Rattle.search.proofs.aim.BestLaws.{best_other, best_sink, low_other, low_lacks}
+use Rattle.search.proofs.aim.ShortenLaws.{same-estimate, shortened_waits}
+use Rattle.search.proofs.aim.BestLaws.{best_other, best_sink, low_other}
 use Rattle.search.proofs.aim.shorten.Goals.{Else-estimate}
 use Rattle.search.proofs.aim.shorten.Goals as goal
 

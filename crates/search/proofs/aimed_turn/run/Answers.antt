@@ -3,7 +3,7 @@
 -- Assumes nothing.
 use mathlib.Core.List.{List}
 use mathlib.Core.Logic.{◌⊎◌, inl, inr}
-use mathlib.Core.Path.{◌≡◌, refl, sym}
+use mathlib.Core.Path.{◌≡◌, refl}
 use Prim.Native.Nat.{ℕ, ◌+◌, ◌≤◌}
 use native.Mathlib.Omega.{arith}
 use lib.ListN.{length, get_or-replicate}
@@ -12,7 +12,7 @@ use Rattle.search.specs.Turn.{weighed_congestion}
 use Rattle.search.specs.Layout.{entry_at}
 use Rattle.search.specs.Buckets.{LowestFrom}
 use Rattle.search.proofs.aimed_turn.AimStart.{started_sized, started_queue, started_lacking, started_out}
-use Rattle.search.proofs.aimed_turn.AimRun.{TurnOver, Turning, turn-begins, turn-long, turn_count_lem, turn_low, turn-heads, level-ready, turn_raised, turn-ends, expands-ready, turn-expands, same_blanks, spreads-ready, turn-spreads, spreading_falls, falls_expanding, falls_spreading}
+use Rattle.search.proofs.aimed_turn.AimRun.{TurnOver, Turning, turn-begins, turn-long, turn_count_lem, turn_low, level-ready, turn_raised, turn-ends, expands-ready, turn-expands, same_blanks, spreads-ready, turn-spreads, spreading_falls, falls_expanding, falls_spreading}
 use Rattle.search.proofs.aimed_turn.run.Goals.{After-done, At-loop-f, Joined-f-gt0, then-f-gt0, else-f-gt0}
 use Rattle.search.proofs.aimed_turn.run.Goals as goal
 

@@ -1,7 +1,7 @@
 -- `search::buckets::lowest` meets its contract. The invariant: no node waits from `from` to below the level. The measure is how far a round of buckets from `from` is still to go.
 -- Assumes nothing.
 use native.Mathlib.Omega.{arith}
-use Rattle.search.proofs.BucketLaws.{none_begin, none_more, none-room, lowest-here}
+use Rattle.search.proofs.BucketLaws.{none-room, lowest-here}
 use Rattle.search.proofs.buckets.lowest.Goals as goal
 
 pub overflow_add-level : goal.overflow_add-level

@@ -1,7 +1,6 @@
 -- `search::queue::lower_above` meets its contract. The loop's invariant: every inner entry but perhaps entry i is the least of its children, and that one lacks only the key.
 -- The measure is i, which at least halves. Assumes nothing.
-use Rattle.search.proofs.StoreLaws.{same_none}
-use Rattle.search.proofs.QueueLaws.{lowered-all, lowered_up, carried_all}
+use Rattle.search.proofs.QueueLaws.{lowered_up}
 use Rattle.search.proofs.queue.lower_above.Goals as goal
 
 pub loop-i-preserved : goal.loop-i-preserved

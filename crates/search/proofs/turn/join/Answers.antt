@@ -1,9 +1,6 @@
 -- `search::turn::join` meets its contract: tree and goals are marked, the labels spread until they stop, and the path is read off.
 -- Assumes nothing.
 use mathlib.Core.Bool.{true}
-use native.Mathlib.Omega.{arith}
-use lib.ListN.{length}
-use Prim.Native.Nat.{◌≤◌}
 use Rattle.search.specs.Lent.{graph_in, price_read}
 use Rattle.search.proofs.JoinLaws.{fitted-lent, fitted-room, tree-room, goals-room, run_room, join_ready, join_halts, join_stuck, join_joins}
 use Rattle.search.proofs.HaltLaws.{Halted, halted_found}
