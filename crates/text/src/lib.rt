@@ -51,29 +51,6 @@ impl From<LineRefusal> for ReadRefusal {
     }
 }
 
-impl From<ReadRefusal> for Refused {
-    ghost use Rattle.std.specs.Prelude.{◌≡◌};
-    ghost use Rattle.job.specs.Refused.{refused_numbers};
-    ghost use Rattle.text.specs.ReadReplies.{refusal_numbers};
-
-    ghost from_gives = { λ refusal refused. refused_numbers refused ≡ refusal_numbers refusal };
-
-    fn from(refusal: ReadRefusal) -> Refused {
-        let (number, first, second) = match refusal {
-            ReadRefusal::Malformed(line) => (1, line as u64, None),
-            ReadRefusal::BeyondBounds(line) => (2, line as u64, None),
-            ReadRefusal::WrongOrder(line) => (3, line as u64, None),
-            ReadRefusal::ShortTable(table) => (4, table as u64, None),
-            ReadRefusal::TooLarge { nodes, limit } => (15, nodes as u64, Some(limit as u64)),
-        };
-        Refused {
-            number,
-            first,
-            second,
-        }
-    }
-}
-
 // The two texts of a log: the lines of its routes, or their picture.
 #[derive(Clone, Copy, Debug, PartialEq, Eq)]
 pub enum Style {
@@ -99,6 +76,29 @@ impl From<UnsoundLog> for WriteRefusal {
 
     fn from(log: UnsoundLog) -> WriteRefusal {
         WriteRefusal::Unsound(log.word)
+    }
+}
+
+impl From<ReadRefusal> for Refused {
+    ghost use Rattle.std.specs.Prelude.{◌≡◌};
+    ghost use Rattle.job.specs.Refused.{refused_numbers};
+    ghost use Rattle.text.specs.ReadReplies.{refusal_numbers};
+
+    ghost from_gives = { λ refusal refused. refused_numbers refused ≡ refusal_numbers refusal };
+
+    fn from(refusal: ReadRefusal) -> Refused {
+        let (number, first, second) = match refusal {
+            ReadRefusal::Malformed(line) => (1, line as u64, None),
+            ReadRefusal::BeyondBounds(line) => (2, line as u64, None),
+            ReadRefusal::WrongOrder(line) => (3, line as u64, None),
+            ReadRefusal::ShortTable(table) => (4, table as u64, None),
+            ReadRefusal::TooLarge { nodes, limit } => (15, nodes as u64, Some(limit as u64)),
+        };
+        Refused {
+            number,
+            first,
+            second,
+        }
     }
 }
 
