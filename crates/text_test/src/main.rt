@@ -5,7 +5,7 @@
 use cases::{lines, read, show};
 use job::Terms;
 use price::Tuning;
-use text::{ReadAnswer, WriteRefusal};
+use text::{ReadAnswer, WriteAnswer};
 
 fn refused(row: u64, value: u64) {
     show::refused(row);
@@ -63,12 +63,12 @@ fn written(bytes: usize) {
     show::entry(bytes as u64);
 }
 
-fn write_answer(a: Result<usize, WriteRefusal>) {
+fn write_answer(a: WriteAnswer) {
     match a {
-        Ok(bytes) => written(bytes),
-        Err(WriteRefusal::BadTable(table)) => refused(5, table as u64),
-        Err(WriteRefusal::Unsound(word)) => refused(10, word as u64),
-        Err(WriteRefusal::ShortBuffer(needed)) => refused(11, needed),
+        WriteAnswer::Written(bytes) => written(bytes),
+        WriteAnswer::BadTable(table) => refused(5, table as u64),
+        WriteAnswer::Unsound(word) => refused(10, word as u64),
+        WriteAnswer::ShortBuffer(needed) => refused(11, needed),
     }
 }
 
@@ -163,12 +163,7 @@ fn read_case(case: &[u8], count: usize, n: [u32; 9]) {
 }
 
 // Calls the writer of the text that the letter names.
-fn write_by(
-    letter: u8,
-    source: &[u16],
-    log: &[u32],
-    routes: &mut [u8],
-) -> Result<usize, WriteRefusal> {
+fn write_by(letter: u8, source: &[u16], log: &[u32], routes: &mut [u8]) -> WriteAnswer {
     match letter {
         b'w' => text::write_routes(source, log, routes),
         _ => text::write_dot(source, log, routes),
