@@ -1,8 +1,8 @@
 -- How the tests of the tables and of a list of sinks decide: where the lengths are right, by their entries.
 --     kinds_, capacities_               tables 1 and 2
---     falls_                            table 3 never falls
+--     falls_, firsts-                   table 3
 --     edges-                            table 4 by its rows
---     sinks_                            a list of sinks
+--     sinks_, sinks-                    a list of sinks
 --     delays_                           table 9
 -- Assumes nothing.
 use mathlib.Core.Bool.{Bool, true, false}
@@ -10,18 +10,18 @@ use mathlib.Core.List.{List, [], ◌∷◌}
 use mathlib.Core.Path.{◌≡◌, refl, ap}
 use Prim.Native.Nat.{ℕ, suc, ◌+◌, ◌-◌, ◌≤◌, ◌<◌}
 use native.Mathlib.Omega.{arith}
-use lib.Dec.{leb, ltb}
+use lib.Dec.{leb, ltb, eqb}
 use lib.ListN.{length, get_or, drop, length-drop}
 use lib.Seq.{drop-cons}
 use Rattle.std.specs.List.{list_all}
-use borrow.Author.Tests.{le-leb, eq-eqb}
+use borrow.Author.Tests.{le-leb, lt-ltb, eq-eqb}
 use Rattle.price.specs.Test.{both}
 use Rattle.price.specs.Bounds.{kind_most, capacity_most, nodes_most, delay_most}
 use Rattle.price.specs.Lists.{every, neighbours, up_to}
 use Rattle.price.proofs.TestLaws.{both_true, both_false_right}
 use Rattle.price.proofs.ListLaws.{every-all, every-none, neighbours-all, length_up_to, get_or_up_to}
 use Rattle.search.specs.Block.{Block, nodes, row}
-use Rattle.search.specs.Tables.{kinds_sound, capacities_sound, row_sound, edge_targets_sound, edges_most, delays_sound}
+use Rattle.search.specs.Tables.{kinds_sound, capacities_sound, first_edges_sound, row_sound, edge_targets_sound, edges_most, delays_sound}
 use Rattle.search.specs.Replies.{sinks_most, sink_list_sound}
 use Rattle.search.proofs.KeptLaws.{both_alone, every_all}
 
@@ -68,6 +68,11 @@ falls_next fs v later l =
 pub falls_end : (fs : List ℕ) (v : ℕ) → length fs ≤ v → neighbours leb (drop (v - 1) fs) ≡ true
 falls_end fs v end = neighbours-all leb (drop (v - 1) fs) (λ i l. absurd (omega (arith, length-drop (v - 1) fs)))
 
+-- all but the last entry
+pub firsts-last : (n edges : ℕ) (fs : List ℕ) → length fs ≡ n + 1 → get_or fs 0 0 ≡ 0 → neighbours leb fs ≡ true → first_edges_sound n edges fs ≡ eqb (get_or fs n 0) edges
+unfolding first_edges_sound
+firsts-last n edges fs long first h = rw (eq-eqb (length fs) (n + 1) long, eq-eqb (get_or fs 0 0) 0 first, h)
+
 -- ---- table 4
 
 module _ (b : Block) where
@@ -92,6 +97,11 @@ module _ (b : Block) where
 pub sinks_each : (n : ℕ) (ss : List ℕ) → length ss ≤ sinks_most → sink_list_sound n ss ≡ list_all (λ s. ltb s n) ss
 unfolding sink_list_sound
 sinks_each n ss few = rw (le-leb (length ss) sinks_most few) (every_all (λ s. ltb s n) ss)
+
+pub sinks-all : (n : ℕ) (ss : List ℕ) (i : ℕ) → length ss ≤ sinks_most → length ss ≤ i → ((k : ℕ) → k < i → get_or ss k 0 < n) → sink_list_sound n ss ≡ true
+unfolding sink_list_sound
+sinks-all n ss i few end all =
+    both_true (le-leb (length ss) sinks_most few) (every-all (λ s. ltb s n) ss (λ k l. lt-ltb (get_or ss k 0) n (all k (omega arith))))
 
 -- ---- table 9
 

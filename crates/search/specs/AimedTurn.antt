@@ -1,7 +1,7 @@
 -- What the private functions of a turn that aims do to its work slice. Only their contracts cite this file: no caller has to believe it.
 -- Assumes nothing.
-use Rattle.std.specs.Prelude.{Bool, true, false, List, [], ◌++◌, ◌⊎◌, ◌≡◌, ℕ, ◌+◌, ◌-◌, ◌*◌, ◌≤◌, ◌<◌, min, length, get_or, take, drop, Option, Some, None}
-use Rattle.std.specs.Prelude.{replicate}
+use Rattle.std.specs.Prelude.{Bool, true, false, List, [], ◌++◌, ◌⊎◌, ◌≡◌, ℕ, ◌+◌, ◌-◌, ◌*◌, ◌≤◌, ◌<◌, min, length, get_or, take, drop}
+use Rattle.std.specs.Prelude.{replicate, Option, Some, None}
 use Rattle.price.specs.Test.{choose}
 use Rattle.price.specs.Bounds.{nodes_most}
 use Rattle.price.specs.Lists.{count_below}

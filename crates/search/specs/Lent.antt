@@ -1,5 +1,5 @@
--- What a caller lends, as the records of lists of which the definitions speak: tables 1 to 4, the same edges by their target, and what prices
--- a turn. And the tests of tables and numbers as results.
+-- What a caller lends, as the records of lists of which the definitions speak: tables 1 to 4, the same edges by their target, and what
+-- prices a turn. And a test of tables as a result.
 -- Assumes nothing.
 use Rattle.std.specs.Prelude.{List, ℕ, zero, suc, Result, Ok, Err}
 use Rattle.search.specs.Block.{Block, block_of, graph_of}
