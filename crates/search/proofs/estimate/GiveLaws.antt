@@ -57,12 +57,6 @@ module _ (w : Weighting) where
 pub key_small : {scale level : ℕ} → scale ≤ scale_most → level ≤ level_most → scale * level ≤ key_most
 key_small s l = mul-le-mul s l
 
--- and so is the key of a node that has a distance
-pub key_fits :
-    {n : ℕ} {w : List ℕ} {u d left : ℕ} → Sized n w → u < n → d ≡ dist_at w u → (d ≡ far → ⊥) → left ≤ key_most → d + left < far + 1
-key_fits {w = w} {u = u} s h e near small =
-    ⊎_elim (λ (q : dist_at w u ≡ far). absurd (near (e ∙ q))) (λ (q : dist_at w u ≤ reach_most). omega arith) (s.near u h)
-
 -- ---- the stores of `give`
 
 -- the node stands first in its bucket

@@ -25,18 +25,3 @@ module _ (c : After-wait_to_spread-count) where
       let a = c.args in
       noted_queue (length a.kind.now) a.u (a.scale * a.estimate) a.work.now c.requires.0 c.requires.7.long c.wait_to_spread-count.ensures.1
       c.requires.8
-
-pub returns-then-d : goal.returns-then-d
-returns-then-d c =
-    let spread = c.wait_to_spread-count.ensures in
-    gave_far _ _ _ _ c.requires.0 c.requires.7.long spread.1 spread.0 _ c.requires.8 c.if-d.true
-
-pub returns-then-d-eq0 : goal.returns-then-d-eq0
-returns-then-d-eq0 c =
-    let spread = c.wait_to_spread-count.ensures in
-    gave_tree _ _ _ _ c.requires.0 c.requires.7.long spread.1 spread.0 _ c.if-d.false c.wait.ensures c.if-d-eq0.true
-
-pub returns-else-d-eq0 : goal.returns-else-d-eq0
-returns-else-d-eq0 c =
-    let spread = c.wait_to_spread-count.ensures in
-    gave_near _ _ _ _ c.requires.0 c.requires.7.long spread.1 spread.0 _ c.if-d.false c.wait.ensures c.if-d-eq0.false
