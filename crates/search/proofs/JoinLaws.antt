@@ -196,14 +196,6 @@ module _ (ks cs fs ts : List ℕ) {c : Congestion} {marks sinks w₀ w₁ : List
     pub goals-room : length ks ≤ length w₂
     goals-room = let r = tree-room in let l = g.same.long in omega arith
 
-    pub run_room : {b : Block} {price : ℕ → ℕ} {goals : Bool} {step best : ℕ} {w₃ : List ℕ} → SpreadStopped b price goals step w₂ w₃ best → (0 ≤ 3 * length ks) × (3 * length ks ≤ length w₃)
-    run_room r =
-        let room = fitted-room ks cs fs ts f in
-        let l = t.long in
-        let m = g.same.long in
-        let n = r.onward.long in
-        (omega arith, omega arith)
-
 -- what the turn answers then
 module _ (ks cs fs ts : List ℕ) (c : Congestion) {marks sinks w₀ w : List ℕ} {best : ℕ} (s : Halted (graph_of ks fs ts) (clamped_price ks cs c) marks sinks w₀ w best) where
   pub join_stuck : best ≡ far → {w' : List ℕ} → w' ≡ take 0 w ++ (replicate (3 * length ks - 0) 0 ++ drop (3 * length ks) w) → path_reply_of (Ok None) w' ≡ turn_reply (length ks) w₀ (turn (block_of ks cs fs ts) (clamped_price ks cs c) marks sinks)

@@ -1,6 +1,6 @@
 -- What the loops before and after the labels keep from turn to turn: the tree's nodes, the goals, the least price of a goal, the first node of a label.
 -- Assumes nothing.
-use mathlib.Core.Bool.{Bool, true, false}
+use mathlib.Core.Bool.{false}
 use mathlib.Core.List.{List, ◌++◌}
 use mathlib.Core.Logic.{⊎_elim, inl, inr}
 use mathlib.Core.Path.{◌≡◌, refl, sym, ◌∙◌, ap}
@@ -13,13 +13,12 @@ use borrow.Author.Tests.{le-leb, lt-leb}
 use Rattle.price.specs.Test.{choose}
 use Rattle.price.specs.Lists.{count_below}
 use Rattle.price.proofs.BelowLaws.{count_same}
-use Rattle.price.proofs.TestLaws.{le_or_lt, true≢false, same_or_not}
+use Rattle.price.proofs.TestLaws.{le_or_lt, same_or_not}
 use Rattle.search.specs.Distance.{far, tree_has}
-use Rattle.search.specs.Paths.{any_price_most}
 use Rattle.search.specs.Labels.{goal, label_at, wait_at, beside_at, put, Waits}
 use Rattle.search.specs.Spread.{bare, bare_count}
 use Rattle.search.specs.TurnWork.{Blank, Unmarked, PassedOver, NextMarked, TreeMarked, GoalsMarked, LeastGoal}
-use Rattle.search.proofs.StoreLaws.{store_here, store_other, same_none, same_store}
+use Rattle.search.proofs.StoreLaws.{store_here, store_other, same_store}
 use Rattle.search.proofs.FillLaws.{first_tree, first_other}
 use Rattle.search.proofs.HeapLaws.{put-long, put_else, put-here, put-beside}
 
@@ -32,9 +31,6 @@ blank_filled n w {w'} enough e = record {
 }
 
 -- ---- stretches without a tree node
-
-pub over_none : (marks : List ℕ) (from n : ℕ) → from ≤ n → PassedOver marks from n from
-over_none marks from n l = record { least = omega arith; most = l; none = λ x a b. absurd (omega arith) }
 
 pub over-on : {marks : List ℕ} {from n v : ℕ} (v' : ℕ) → v ≤ v' → v' ≤ n → Unmarked marks v v' → PassedOver marks from n v → PassedOver marks from n v'
 over-on {marks} {from} {n} {v} v' l m none s = record {
@@ -135,13 +131,13 @@ pub tree-start : {n : ℕ} {marks w₀ w : List ℕ} {r : ℕ} → Blank n w₀ 
 tree-start {n} {marks} blank o = tree_over o (tree-none marks blank)
 
 module _ {n : ℕ} {marks w₀ w w' : List ℕ} {count i : ℕ} (enough : 3 * n ≤ length w₀) (clean : Blank n w₀ w n) (l : i < n) (s : TreeSoFar n marks w w' count i) where
-  pub tree-few : count < n
+  tree-few : count < n
   tree-few = omega (arith, s.room)
 
-  pub tree-room : 3 * n ≤ length w'
+  tree-room : 3 * n ≤ length w'
   tree-room = rw (s.long, clean.same.long) enough
 
-  pub tree-put : 3 * n ≤ length (set w' i 0)
+  tree-put : 3 * n ≤ length (set w' i 0)
   tree-put = rw (length-set w' i 0) tree-room
 
   -- a tree node has label 0 and waits
@@ -217,9 +213,6 @@ tree_all {n} {marks} {w₀} {w} {w'} {count} {i} l clean s =
 
 -- ---- the goals
 
-pub goals-none : (n : ℕ) (sinks w : List ℕ) → GoalsMarked n sinks w w 0
-goals-none n sinks w = record { same = same_none 0 n w; there = λ j l. absurd (omega arith); only = λ v h. inl refl }
-
 module _ {n : ℕ} {sinks w w' : List ℕ} {i : ℕ} (s : GoalsMarked n sinks w w' i) where
   -- a listed node that has no label and is no goal yet
   pub goals_store : n ≤ length w → get_or sinks i 0 < n → label_at w' (get_or sinks i 0) ≡ far → GoalsMarked n sinks w (set w' (get_or sinks i 0) goal) (i + 1)
@@ -284,9 +277,6 @@ module _ {n : ℕ} {sinks w w' : List ℕ} {i : ℕ} (s : GoalsMarked n sinks w 
   goals-all a b = let e : i ≡ length sinks = omega arith in rw e at s
 
 -- ---- the least price of a goal
-
-pub least-none : (n : ℕ) (price : ℕ → ℕ) (sinks w : List ℕ) → LeastGoal n price sinks w 0 any_price_most
-least-none n price sinks w = record { most = omega arith; least = λ j l. absurd (omega arith) }
 
 module _ {n : ℕ} {price : ℕ → ℕ} {sinks w : List ℕ} {i least : ℕ} (s : LeastGoal n price sinks w i least) where
   pub least_more : {least' : ℕ} → least' ≤ least → (get_or sinks i 0 < n → label_at w (get_or sinks i 0) ≡ goal → least' ≤ price (get_or sinks i 0)) → LeastGoal n price sinks w (i + 1) least'

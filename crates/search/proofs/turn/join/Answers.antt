@@ -1,22 +1,11 @@
 -- `search::turn::join` meets its contract: tree and goals are marked, the labels spread until they stop, and the path is read off.
 -- Assumes nothing.
 use mathlib.Core.Bool.{true}
-use native.Mathlib.Omega.{arith}
-use lib.ListN.{length}
-use Prim.Native.Nat.{◌≤◌}
 use Rattle.search.specs.Lent.{graph_in, price_read}
-use Rattle.search.proofs.JoinLaws.{fitted-lent, fitted-room, tree-room, goals-room, run_room, join_ready, join_halts, join_stuck, join_joins}
+use Rattle.search.proofs.JoinLaws.{fitted-lent, goals-room, join_ready, join_halts, join_stuck, join_joins}
 use Rattle.search.proofs.HaltLaws.{Halted, halted_found}
 use Rattle.search.proofs.turn.join.Goals.{After-settle_all-cost}
 use Rattle.search.proofs.turn.join.Goals as goal
-
-pub mark_tree-waits-requires : goal.mark_tree-waits-requires
-mark_tree-waits-requires c = let f = c.requires in (f.few, f.marks_long, fitted-room _ _ _ _ f)
-
-pub mark_goals-requires : goal.mark_goals-requires
-mark_goals-requires c =
-    let f = c.requires in
-    (f.few, tree-room _ _ _ _ f c.mark_tree-waits.ensures)
 
 pub least_price-last_step-requires : goal.least_price-last_step-requires
 least_price-last_step-requires c =
@@ -36,10 +25,6 @@ module _ (c : After-settle_all-cost) where
   halts =
       join_halts _ _ _ _ _ c.requires c.mark_tree-waits.ensures c.mark_goals.ensures c.least_price-last_step.ensures true
       c.settle_all-cost.ensures
-
-pub fill-requires : goal.fill-requires
-fill-requires c =
-    run_room _ _ _ _ c.requires c.mark_tree-waits.ensures c.mark_goals.ensures c.settle_all-cost.ensures
 
 pub returns-then-cost : goal.returns-then-cost
 returns-then-cost c =

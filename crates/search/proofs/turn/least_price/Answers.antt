@@ -1,12 +1,9 @@
 -- `search::turn::least_price` meets its contract. The invariant: `least` is at most the price of each goal that was passed.
 -- Assumes nothing.
 use native.Mathlib.Omega.{arith}
-use Rattle.search.proofs.turn.TurnMarkLaws.{least-none, least_more, least-all}
+use Rattle.search.proofs.turn.TurnMarkLaws.{least_more, least-all}
 use Rattle.search.proofs.turn.least_price.Goals.{then-s-n+then-work-s, else-s-n, else-s-n-via-then-s-n+else-work-s, else-s-n-via-else-s-n}
 use Rattle.search.proofs.turn.least_price.Goals as goal
-
-pub loop-sink-init : goal.loop-sink-init
-loop-sink-init c = least-none _ _ _ _
 
 pub loop-sink-preserved : goal.loop-sink-preserved
 loop-sink-preserved c =

@@ -1,12 +1,9 @@
 -- `search::turn::mark_goals` meets its contract. The invariant: the sinks passed are marked.
 -- Assumes nothing.
+use Rattle.search.proofs.turn.TurnMarkLaws.{goals_store, goals_other, goals-all}
 use native.Mathlib.Omega.{arith}
-use Rattle.search.proofs.turn.TurnMarkLaws.{goals-none, goals_store, goals_other, goals-all}
 use Rattle.search.proofs.turn.mark_goals.Goals.{then-s-n+then-work-s, else-s-n, else-s-n-via-then-s-n+else-work-s, else-s-n-via-else-s-n}
 use Rattle.search.proofs.turn.mark_goals.Goals as goal
-
-pub loop-sink-init : goal.loop-sink-init
-loop-sink-init c = goals-none _ _ _
 
 pub loop-sink-preserved : goal.loop-sink-preserved
 loop-sink-preserved c =
