@@ -22,7 +22,7 @@ use Rattle.search.specs.Distance.{far}
 use Rattle.search.specs.Clamped.{clamped_base, clamped_scale, clamped_weighting}
 use Rattle.search.specs.Layout.{dist_at, link_at, estimate_at, Tournament, Queued}
 use Rattle.search.specs.Buckets.{buckets}
-use Rattle.search.specs.Estimates.{scale_most, level_most, key_most, reach_most, Sized, Beside, Given, WaitsToSpread, no_edge, lines_up}
+use Rattle.search.specs.Estimates.{scale_most, level_most, key_most, Beside, Given, WaitsToSpread, no_edge, lines_up}
 use Rattle.search.proofs.AimedLaws.{scale_timed, scale_untimed}
 use Rattle.search.proofs.StoreLaws.{store_here, store_other}
 use Rattle.search.proofs.QueueLaws.{queue-same}

@@ -1,10 +1,9 @@
 -- `search::aimed_turn::start` meets its contract. The invariant: the nodes below v have their distances, and v is in the tree. The measure is how many nodes are left.
 -- Assumes nothing.
-use mathlib.Core.Path.{◌∙◌}
 use Prim.Native.Nat.{◌≤◌}
 use native.Mathlib.Omega.{arith}
 use lib.ListN.{length}
-use Rattle.search.proofs.aimed_turn.StartLaws.{start_first, start-room, start-over, start_in, start-count, start-all}
+use Rattle.search.proofs.aimed_turn.StartLaws.{start_first, start-room, start-over, start_in, start-count}
 use Rattle.search.proofs.aimed_turn.start.Goals.{At-loop-v}
 use Rattle.search.proofs.aimed_turn.start.Goals as goal
 

@@ -4,9 +4,8 @@ use mathlib.Core.Path.{◌≡◌}
 use Prim.Native.Nat.{◌*◌}
 use lib.ListN.{length}
 use Rattle.search.specs.Layout.{dist_at, Tournament}
-use Rattle.search.proofs.estimate.GiveLaws.{noted_long, noted_dist, noted_queue, gave_far, gave_tree, gave_near}
+use Rattle.search.proofs.estimate.GiveLaws.{noted_long, noted_dist, noted_queue}
 use Rattle.search.proofs.estimate.give.Goals.{After-wait_to_spread-count}
-use Rattle.search.proofs.estimate.give.Goals as goal
 
 module _ (c : After-wait_to_spread-count) where
   -- the stores until then: lengths, the node's distance and the queue are as before
