@@ -8,6 +8,7 @@ use Prim.Native.Nat.{ℕ, zero, suc, ◌*◌, ◌-◌, ◌<◌}
 use native.Mathlib.Nat.{not-suc-le-zero, le_of_suc-le-suc}
 use native.Mathlib.Omega.{arith}
 use lib.ListN.{length, get_or, take, drop, replicate, get_or-append}
+use Rattle.price.proofs.TestLaws.{true≢false}
 use Rattle.search.specs.Block.{Block, block_of, nodes}
 use Rattle.search.specs.Tables.{Sound}
 use Rattle.search.specs.Paths.{CheapestPath, NoPath, Fair}

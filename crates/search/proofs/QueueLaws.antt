@@ -1,6 +1,5 @@
 -- Laws of the queue, a tournament tree: what a store leaves of it, how the loops put it right, and that entry 1 is the least.
---     queue_whole                          an entry that was left out is right too
---     queue-same, queue_aside, queue_way     stores outside the queue leave it right
+--     queue-same, queue_aside              stores outside the queue leave it right
 --     queue-here, queue_up                  a store that puts an inner entry right
 --     entry_child, queue-least             an inner entry is one of its children; entry 1 is at most every leaf
 --     Carrying, Lowering                  the invariants of `carry_up` and `lower_above`, with their steps and ends
@@ -18,11 +17,6 @@ use Rattle.search.specs.Layout.{entry_at, leaf_at, TournamentAt, TournamentBut, 
 use Rattle.search.proofs.StoreLaws.{store_here, store_other, same_store}
 
 -- ---- inner entries that are the least of their children
-
--- the entry that was left out is also the least of its children
-pub queue_whole : (n : ℕ) (w : List ℕ) (j : ℕ) → TournamentBut n w j → TournamentAt n w j → Tournament n w
-queue_whole n w j b e i l h =
-    ⊎_elim (λ (s : i ≡ j). rw s e) (λ (d : i ≡ j → ⊥). b i l h d) (same_or_not i j)
 
 -- an entry that stands with its children as before
 queue-kept : (n : ℕ) (w w' : List ℕ) (i : ℕ) → entry_at n w' i ≡ entry_at n w i → entry_at n w' (2 * i) ≡ entry_at n w (2 * i) → entry_at n w' (2 * i + 1) ≡ entry_at n w (2 * i + 1) → TournamentAt n w i → TournamentAt n w' i
@@ -67,11 +61,6 @@ queue-same n w w' same b i l h =
 pub queue_aside : (n : ℕ) (w : List ℕ) (p x : ℕ) → (p ≤ n) ⊎ (3 * n ≤ p) → Tournament n w → Tournament n (set w p x)
 queue_aside n w p x out =
     queue-same n w (set w p x) (λ k a z. store_other w p x (n + k) (λ e. ⊎_elim (λ q. omega arith) (λ q. omega arith) out))
-
--- distance and predecessor of a shorter way to v
-pub queue_way : (n : ℕ) (w : List ℕ) (u v d : ℕ) → v < n → Tournament n w → Tournament n (set (set w v d) (4 * n + v) u)
-queue_way n w u v d h b =
-    queue_aside n (set w v d) (4 * n + v) u (inr (omega arith)) (queue_aside n w v d (inl (omega arith)) b)
 
 -- ---- the least entry
 
@@ -120,10 +109,6 @@ pub record Carrying (n : ℕ) (old w : List ℕ) (i : ℕ) : Type 0 where
   pub same : SameBut (n + 1) (2 * n) old w
 
 module _ (n : ℕ) (old w : List ℕ) (i : ℕ) where
-  -- entry i is right too
-  pub carried : (x : ℕ) → x ≡ min (entry_at n w (2 * i)) (entry_at n w (2 * i + 1)) → entry_at n w i ≡ x → Carrying n old w i → Tournament n w
-  carried x least e k = queue_whole n w i k.but (e ∙ least)
-
   -- entry i is put right, and the one above it may be wrong
   pub carried_up : (x : ℕ) → 0 < i → x ≡ min (entry_at n w (2 * i)) (entry_at n w (2 * i + 1)) → Carrying n old w i → Carrying n old (set w (n + i) x) (i / 2)
   carried_up x pos least k =

@@ -22,7 +22,7 @@ use Rattle.search.specs.Distance.{far}
 use Rattle.search.specs.Clamped.{clamped_base, clamped_scale, clamped_weighting}
 use Rattle.search.specs.Layout.{dist_at, link_at, estimate_at, Tournament, Queued}
 use Rattle.search.specs.Buckets.{buckets}
-use Rattle.search.specs.Estimates.{scale_most, level_most, key_most, reach_most, Sized, Beside, Given, WaitsToSpread, no_edge, lines_up}
+use Rattle.search.specs.Estimates.{scale_most, level_most, key_most, Beside, Given, WaitsToSpread, no_edge, lines_up}
 use Rattle.search.proofs.AimedLaws.{scale_timed, scale_untimed}
 use Rattle.search.proofs.StoreLaws.{store_here, store_other}
 use Rattle.search.proofs.QueueLaws.{queue-same}
@@ -56,12 +56,6 @@ module _ (w : Weighting) where
 -- an estimate is small
 pub key_small : {scale level : ℕ} → scale ≤ scale_most → level ≤ level_most → scale * level ≤ key_most
 key_small s l = mul-le-mul s l
-
--- and so is the key of a node that has a distance
-pub key_fits :
-    {n : ℕ} {w : List ℕ} {u d left : ℕ} → Sized n w → u < n → d ≡ dist_at w u → (d ≡ far → ⊥) → left ≤ key_most → d + left < far + 1
-key_fits {w = w} {u = u} s h e near small =
-    ⊎_elim (λ (q : dist_at w u ≡ far). absurd (near (e ∙ q))) (λ (q : dist_at w u ≤ reach_most). omega arith) (s.near u h)
 
 -- ---- the stores of `give`
 
