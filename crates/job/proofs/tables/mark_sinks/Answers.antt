@@ -10,9 +10,6 @@ use Rattle.job.proofs.tables.mark_sinks.Goals as goal
 pub loop-sink-init : goal.loop-sink-init
 loop-sink-init c = marking_none _ _ _
 
-pub bounds-seen-s : goal.bounds-seen-s
-bounds-seen-s c = omega (arith, c.loop-sink.invariant.stored.long)
-
 pub returns-then-n-s : goal.returns-then-n-s
 returns-then-n-s c =
     let inv = c.loop-sink.invariant in

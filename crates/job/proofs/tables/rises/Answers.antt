@@ -7,14 +7,8 @@ use borrow.Author.Count.{below_more}
 use Rattle.job.proofs.NetTableLaws.{stays_at, always_rises}
 use Rattle.job.proofs.tables.rises.Goals as goal
 
-pub loop-i-init : goal.loop-i-init
-loop-i-init c = (search rules, λ k l h. absurd (omega arith))
-
 pub returns-then-first_sink-i : goal.returns-then-first_sink-i
 returns-then-first_sink-i c = sym (stays_at _ c.loop-i.i (search rules) (search rules) (search rules))
-
-pub loop-i-preserved : goal.loop-i-preserved
-loop-i-preserved c = (search rules, below_more _ _ c.loop-i.invariant.1 (λ h. search rules))
 
 pub returns : goal.returns
 returns c = sym (always_rises _ _ (search rules) c.loop-i.invariant.1)
