@@ -2,7 +2,6 @@
 -- Assumes nothing.
 use mathlib.Core.Path.{sym}
 use Rattle.std.proofs.Common.{rules}
-use borrow.Author.Count.{below_none, below_more}
 use Rattle.job.proofs.FirstNetLaws.{first_found, first_none}
 use Rattle.job.proofs.first_net.first_of.Goals as goal
 

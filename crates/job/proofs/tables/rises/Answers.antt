@@ -1,9 +1,7 @@
 -- `tables::rises` meets its contract. The loop's invariant: every entry passed is above the one before it.
 -- Assumes nothing.
 use mathlib.Core.Path.{sym}
-use native.Mathlib.Omega.{arith}
 use Rattle.std.proofs.Common.{rules}
-use borrow.Author.Count.{below_more}
 use Rattle.job.proofs.NetTableLaws.{stays_at, always_rises}
 use Rattle.job.proofs.tables.rises.Goals as goal
 
