@@ -6,7 +6,7 @@
 -- Assumes nothing.
 use mathlib.Core.Bool.{true}
 use mathlib.Core.List.{List, [], ◌++◌, flat_map}
-use mathlib.Core.Path.{◌≡◌, subst}
+use mathlib.Core.Path.{◌≡◌, subst, ◌∙◌, sym}
 use Prim.Native.Nat.{ℕ, ◌+◌, ◌-◌, ◌^◌, ◌≤◌, ◌<◌}
 use native.Mathlib.Numerals.{add-one}
 use native.Mathlib.Omega.{arith}
@@ -15,7 +15,7 @@ use borrow.Author.Tests.{eq-eqb, ne_eqb}
 use Rattle.price.proofs.TestLaws.{by_test}
 use Rattle.negotiation.specs.Records.{Record, decode}
 use Rattle.text.specs.Routes.{Named, record_sound, sound_words, Branch, steps, passing, record_branches, tree_branches, route_branches}
-use Rattle.text.specs.WriteSteps.{next_at, Filled, AllSound, part, own_records, Latest}
+use Rattle.text.specs.WriteSteps.{next_at, Filled, AllSound, part, own_records, LatestWords, RecordAt}
 use Rattle.text.proofs.LogLaws.{sound_after, sound_stop, sound-at, long-at, fits-at, decode-at, decode-none}
 use Rattle.text.proofs.StepTextLaws.{filled_none, filled_then, FilledSoFar, so_far-none, so_far_more, so_far-all}
 use Rattle.text.proofs.StepListLaws.{flat_append}
@@ -98,20 +98,21 @@ module _ {line : Branch → List ℕ} {net start next at : ℕ} {log before afte
   records-all l = so_far-all (rw (text_none line net log at l) at p.writing)
 
   module _ (l : at < length log) where
-    module _ {end : ℕ} (is : end ≡ next_at log at) where
-      pub records_passed : (get_or log (at + 1) 0 ≡ net → ⊥) → PuttingRecords line net log start before after next end
+    module _ {iteration own end : ℕ} {path : List ℕ} (r : RecordAt log at iteration own path end) where
+      pub records_passed : (own ≡ net → ⊥) → PuttingRecords line net log start before after next end
       records_passed e =
-          rw is (record { rest = rest_next p.rest l; writing = rw (text_passed p.rest l line net e) at p.writing })
+          rw r.end-is (record { rest = rest_next p.rest l; writing = rw (text_passed p.rest l line net (λ q. e (r.net-is ∙ q))) at p.writing })
 
       pub records_met :
-          {later : List ℕ} {further : ℕ} → get_or log (at + 1) 0 ≡ net → Filled next (record_text line net log at end) after later further
+          {later : List ℕ} {further : ℕ} → own ≡ net → Filled next (flat_map line (steps net path)) after later further
           → PuttingRecords line net log start before later further end
       records_met e q =
-          rw is
+          rw r.end-is
           (record {
             rest = rest_next p.rest l;
             writing =
-                so_far_more (record_text line net log at (next_at log at)) (text_from line net log (next_at log at)) (rw (text_met p.rest l line net e) at p.writing) (rw is at q);
+                so_far_more (record_text line net log at (next_at log at)) (text_from line net log (next_at log at))
+                (rw (text_met p.rest l line net (sym r.net-is ∙ e)) at p.writing) (rw (r.path-is, r.end-is) at q);
           })
 
 -- ---- net after net
@@ -127,17 +128,17 @@ nets-none line log nets start before small = record { within = omega arith; fill
 
 module _ {line : Branch → List ℕ} {log : List ℕ} {nets start next net : ℕ} {before after : List ℕ} (p : PuttingNets line log nets start before after next net) where
   pub nets-more :
-      {later : List ℕ} {further from to : ℕ} → net < nets → Latest log net from to
-      → Filled next (flat_map line (record_branches (own_records net (decode (part log from to))))) after later further
+      {later words : List ℕ} {further : ℕ} → net < nets → LatestWords log net words
+      → Filled next (flat_map line (record_branches (own_records net (decode words)))) after later further
       → PuttingNets line log nets start before later further (net + 1)
   unfolding route_branches tree_branches
-  nets-more {later} {further} {from} {to} l places q =
+  nets-more {later} {words} {further} l latest q =
       record {
         within = omega arith;
         filled =
             rw (add-one net, flat_append line (route_branches net (decode log)) (tree_branches net (decode log)))
             (filled_then p.filled
-            (subst (λ (rs : List Record). Filled next (flat_map line (record_branches rs)) after later further) places.own q));
+            (subst (λ (rs : List Record). Filled next (flat_map line (record_branches rs)) after later further) latest.own q));
       }
 
   pub nets-all : nets ≤ net → Filled start (flat_map line (route_branches nets (decode log))) before after next

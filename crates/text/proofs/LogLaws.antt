@@ -9,7 +9,7 @@ use native.Mathlib.Nat.{add-zero, zero-add}
 use native.Mathlib.Omega.{arith}
 use lib.Dec.{leb, eqb}
 use lib.ListN.{length, get_or, take, drop, length-drop, drop_of_length-le}
-use lib.Seq.{get_or-drop, drop-drop}
+use lib.Seq.{get_or-drop, drop-drop, take_all}
 use borrow.Author.Tests.{le-leb, lt-leb, eq-eqb, ne_eqb, eqb-true}
 use Rattle.price.proofs.TestLaws.{by_test, both_right, le_or_lt}
 use Rattle.price.specs.Bounds.{nodes_most}
@@ -17,7 +17,7 @@ use Rattle.job.specs.Tables.{nets_most}
 use Rattle.negotiation.specs.Records.{Record, record_of, decode_up_to, decode}
 use Rattle.text.specs.Routes.{Named, path_words, record_sound, sound_up_to, sound_words, log_sound, last_iteration}
 use Rattle.text.specs.Users.{sound, unsound, log_checked}
-use Rattle.text.specs.WriteSteps.{next_at, LogTested}
+use Rattle.text.specs.WriteSteps.{next_at, RecordAt, LogTested}
 use Rattle.text.proofs.RecordTestLaws.{record_length, sound-fits}
 
 -- ---- sound words, record by record
@@ -120,6 +120,10 @@ decode-next ws h =
 
 -- ---- the record at a place
 
+-- the words from a place on, which a slice takes
+pub words_on : (log : List ℕ) (at : ℕ) → at ≤ length log → take (length log - at) (drop at log) ≡ drop at log
+words_on log at l = take_all (length log - at) (drop at log) (rw (length-drop at log) (omega arith))
+
 abbrev pub record_at_lem : List ℕ → ℕ → Record
 record_at_lem log at =
     record_of (get_or log at 0) (get_or log (at + 1) 0) (get_or log (at + 2) 0) (get_or log (at + 3) 0 + get_or log (at + 4) 0 * 2 ^ 32)
@@ -209,12 +213,12 @@ module _ {named : Named} {log : List ℕ} {at iteration turns : ℕ} (p : Checki
   pub checking_fits : record_sound named iteration (drop at log) ≡ true → next_at log at ≤ length log
   checking_fits t = fits-at log at named iteration t p.within
 
-  pub checking_next : {end : ℕ} → record_sound named iteration (drop at log) ≡ true → end ≡ next_at log at → Checking named log end (get_or log at 0) (turns + 1)
+  pub checking_next : {t net end : ℕ} {path : List ℕ} → record_sound named iteration (drop at log) ≡ true → RecordAt log at t net path end → Checking named log end t (turns + 1)
   unfolding last_or
-  checking_next t is =
+  checking_next t r =
       let long = long-at log at named iteration t in
       let one : decode (drop at log) ≡ record_at_lem log at ∷ decode (drop (next_at log at) log) = decode-at log at (omega arith) in
-      rw is
+      rw (r.end-is, r.iteration-is)
       (record {
         within = checking_fits t;
         sound_so_far = omega (arith, sound-at log at named iteration t, p.sound_so_far);

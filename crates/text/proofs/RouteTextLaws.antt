@@ -16,10 +16,13 @@ use Rattle.price.proofs.TestLaws.{both_left}
 use Rattle.job.specs.Tables.{nets_most, sources_sound}
 use Rattle.job.specs.Join.{leads}
 use Rattle.job.proofs.JobLaws.{sources-few}
-use Rattle.text.specs.Routes.{WriteReply, net_writable, writable, route_branches, last_iteration, routes_text, capped, not_written, text_reply, tested_reply}
+use Rattle.text.specs.Routes.{WriteReply, net_writable, writable, route_branches, last_iteration, routes_text, capped, not_written, text_reply, tested_reply, write_refusal, write_reply_of}
 use Rattle.text.specs.Dot.{dot_text, style_text, text_in}
 use Rattle.text.specs.Users.{sound, unsound, log_checked}
 use Rattle.text.specs.WriteSteps.{Put, Filled, head_text, tail_text, net_marked, named_by, LogTested}
+use Rattle.std.proofs.Common.{Result, Ok, Err}
+use Rattle.std.specs.Prelude.{IsErrAnd}
+use Rattle.text.specs.declared.WriteRefusal.{WriteRefusal}
 use Rattle.text.specs.declared.Style.{Style}
 use Rattle.text.specs.declared.Style.TheVariants as s
 use Rattle.text.specs.ReadReplies.{written_over}
@@ -91,6 +94,11 @@ module _ {log : List ℕ} {iteration turns : ℕ} (style : Style) (f : LogTested
             rw (le-ltb (length buffer) (length (text_in style sources (decode log))) (omega arith), ← count, ← same)
 
 -- ---- the writer
+
+-- what a refusal answers
+pub write_refused : (buffer : List ℕ) (r : Result ℕ WriteRefusal) (e : WriteRefusal) → IsErrAnd r (λ x. x ≡ e) → write_reply_of r buffer ≡ not_written (write_refusal (Err e)) buffer
+write_refused buffer (Ok bytes) e h = absurd h
+write_refused buffer (Err x) e h = rw h refl
 
 -- a net that the writer takes is one of table 5, and so has few digits
 pub writable-within : (sources : List ℕ) (i : ℕ) → net_writable sources i ≡ true → i < length sources

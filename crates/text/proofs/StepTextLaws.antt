@@ -6,14 +6,14 @@
 --     PuttingSteps, putting-           going from step to step
 -- Assumes nothing.
 use mathlib.Core.List.{List, [], ◌∷◌, ◌++◌, append_assoc, append-nil, flat_map}
-use mathlib.Core.Path.{◌≡◌, refl, sym, ◌∙◌, ap, subst}
+use mathlib.Core.Path.{◌≡◌, refl, sym, ◌∙◌, subst}
 use Prim.Native.Nat.{ℕ, suc, ◌+◌, ◌-◌, ◌^◌, ◌≤◌, ◌<◌}
 use native.Mathlib.Omega.{arith}
-use lib.ListN.{length, get_or, drop, length-append, length-take, length-drop}
-use lib.Seq.{get_or-take, get_or-drop, drop-cons, length-take-le}
+use lib.ListN.{length, get_or, drop, length-append, length-drop}
+use lib.Seq.{drop-cons}
 use Rattle.text.specs.Lines.{print_line}
 use Rattle.text.specs.Routes.{Branch, branch_of, steps, capped}
-use Rattle.text.specs.WriteSteps.{Put, Filled, part}
+use Rattle.text.specs.WriteSteps.{Put, Filled}
 use Rattle.text.proofs.PlacedLaws.{placed-none, placed-append, put-length}
 
 -- ---- lengths
@@ -94,68 +94,44 @@ steps_cons :
 unfolding steps
 steps_cons net path j h = rw (drop-cons path j 0 (omega arith), drop-cons path (suc j) 0 h)
 
--- the line of the step to a place of the log
+-- the line of the step to a place of the path
 abbrev pub step_line : (Branch → List ℕ) → ℕ → List ℕ → ℕ → List ℕ
-step_line line net log k = line (branch_of net (get_or log (k - 1) 0) (get_or log k 0))
+step_line line net path k = line (branch_of net (get_or path (k - 1) 0) (get_or path k 0))
 
 -- the lines of the steps to this place and those after it
-abbrev pub steps_left : (Branch → List ℕ) → ℕ → List ℕ → ℕ → ℕ → ℕ → List ℕ
-steps_left line net log from to k = flat_map line (steps net (drop (k - (from + 1)) (part log from to)))
+abbrev pub steps_left : (Branch → List ℕ) → ℕ → List ℕ → ℕ → List ℕ
+steps_left line net path k = flat_map line (steps net (drop (k - 1) path))
 
-left-start : (line : Branch → List ℕ) (net : ℕ) (log : List ℕ) (from to : ℕ) → steps_left line net log from to (from + 1) ≡ flat_map line (steps net (part log from to))
-left-start line net log from to =
-    let none : from + 1 - (from + 1) ≡ 0 = omega arith in
-    rw none
-
-module _ (line : Branch → List ℕ) (net : ℕ) (log : List ℕ) (from to k : ℕ) (above : from + 1 ≤ k) (fits : to ≤ length log) where
-  part-long : length (part log from to) ≤ to - from
-  part-long = rw (length-take (to - from) (drop from log)) (omega arith)
-
-  left-more : k < to → steps_left line net log from to k ≡ step_line line net log k ++ steps_left line net log from to (k + 1)
+module _ (line : Branch → List ℕ) (net : ℕ) (path : List ℕ) (k : ℕ) (above : 1 ≤ k) where
+  left-more : k < length path → steps_left line net path k ≡ step_line line net path k ++ steps_left line net path (k + 1)
   unfolding flat_map
   left-more l =
-      let j = k - (from + 1) in
-      let long : length (part log from to) ≡ to - from =
-      length-take-le (to - from) (drop from log) (rw (length-drop from log) (omega arith)) in
-      let next : k + 1 - (from + 1) ≡ suc j = omega arith in
-      let place : from + j ≡ k - 1 = omega arith in
-      let place' : from + suc j ≡ k = omega arith in
-      let one : get_or (part log from to) j 0 ≡ get_or log (k - 1) 0 =
-      get_or-take (to - from) (drop from log) j 0 (omega arith) ∙ get_or-drop from log j 0 ∙ ap (λ (i : ℕ). get_or log i 0) place in
-      let two : get_or (part log from to) (suc j) 0 ≡ get_or log k 0 =
-      get_or-take (to - from) (drop from log) (suc j) 0 (omega arith) ∙ get_or-drop from log (suc j) 0 ∙ ap (λ (i : ℕ). get_or log i 0) place' in
-      rw (next, steps_cons net (part log from to) j (rw long (omega arith)), one, two)
+      let next : k + 1 - 1 ≡ suc (k - 1) = omega arith in
+      let here : suc (k - 1) ≡ k = omega arith in
+      rw (next, steps_cons net path (k - 1) (omega arith), here)
 
-  left-none : to ≤ k → steps_left line net log from to k ≡ []
+  left-none : length path ≤ k → steps_left line net path k ≡ []
   unfolding flat_map
-  left-none l =
-      let most = part-long in
-      rw (steps-short net (drop (k - (from + 1)) (part log from to)) (rw (length-drop (k - (from + 1)) (part log from to)) (omega arith)))
+  left-none l = rw (steps-short net (drop (k - 1) path) (rw (length-drop (k - 1) path) (omega arith)))
 
 -- the lines of the steps before a place are passed
-pub record PuttingSteps (line : Branch → List ℕ) (net : ℕ) (log : List ℕ) (from to start : ℕ) (before after : List ℕ) (next k : ℕ) : Type 0 where
-  pub above : from + 1 ≤ k
-  pub writing : FilledSoFar start (flat_map line (steps net (part log from to))) (steps_left line net log from to k) before after next
+pub record PuttingSteps (line : Branch → List ℕ) (net : ℕ) (path : List ℕ) (start : ℕ) (before after : List ℕ) (next k : ℕ) : Type 0 where
+  pub above : 1 ≤ k
+  pub writing : FilledSoFar start (flat_map line (steps net path)) (steps_left line net path k) before after next
 
-pub putting_none : (line : Branch → List ℕ) (net : ℕ) (log : List ℕ) (from to start : ℕ) (before : List ℕ) → start < 2 ^ 64 → PuttingSteps line net log from to start before before start (from + 1)
-putting_none line net log from to start before small =
-    record {
-      above = omega arith;
-      writing = rw (left-start line net log from to) (so_far-none start (flat_map line (steps net (part log from to))) before small);
-    }
+pub putting_none : (line : Branch → List ℕ) (net : ℕ) (path : List ℕ) (start : ℕ) (before : List ℕ) → start < 2 ^ 64 → PuttingSteps line net path start before before start 1
+putting_none line net path start before small =
+    record { above = omega arith; writing = so_far-none start (flat_map line (steps net path)) before small }
 
-module _ {line : Branch → List ℕ} {net from to start next k : ℕ} {log before after : List ℕ} (fits : to ≤ length log) (p : PuttingSteps line net log from to start before after next k) where
-  pub putting_all : to ≤ k → Filled start (flat_map line (steps net (part log from to))) before after next
-  putting_all l = so_far-all (rw (left-none line net log from to k p.above fits l) at p.writing)
+module _ {line : Branch → List ℕ} {net start next k : ℕ} {path before after : List ℕ} (p : PuttingSteps line net path start before after next k) where
+  pub putting_all : length path ≤ k → Filled start (flat_map line (steps net path)) before after next
+  putting_all l = so_far-all (rw (left-none line net path k p.above l) at p.writing)
 
   pub putting_more :
-      {later : List ℕ} {further : ℕ} → k < to → Filled next (step_line line net log k) after later further
-      → PuttingSteps line net log from to start before later further (k + 1)
+      {later : List ℕ} {further : ℕ} → k < length path → Filled next (step_line line net path k) after later further
+      → PuttingSteps line net path start before later further (k + 1)
   putting_more l q =
-      let above = p.above in
       record {
         above = omega arith;
-        writing =
-            so_far_more (step_line line net log k) (steps_left line net log from to (k + 1))
-            (rw (left-more line net log from to k above fits l) at p.writing) q;
+        writing = so_far_more (step_line line net path k) (steps_left line net path (k + 1)) (rw (left-more line net path k p.above l) at p.writing) q;
       }

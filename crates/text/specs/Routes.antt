@@ -1,7 +1,7 @@
 -- Document 01, "Routes text" and rows 5, 10 and 11 of "Numbers for a stopped call", with request 2.3's J lines and request 2.7's
 -- branches by net: sound logs, branches, joined nets, and what the writer answers and leaves.
 -- Assumes nothing.
-use Rattle.std.specs.Prelude.{Bool, not, ℕ, zero, suc, ◌+◌, ◌-◌, ◌^◌, min, leb, ltb, eqb, length, get_or, take, drop}
+use Rattle.std.specs.Prelude.{Bool, not, ℕ, zero, suc, ◌+◌, ◌-◌, ◌^◌, min, leb, ltb, eqb, length, get_or, take, drop, Result, Ok, Err}
 use mathlib.Core.List.{List, [], ◌∷◌, ◌++◌, map, flat_map}
 use Rattle.price.specs.Test.{choose, both}
 use Rattle.price.specs.Bounds.{nodes_most, limit_most}
@@ -13,8 +13,8 @@ use Rattle.negotiation.specs.Demand.{latest}
 use Rattle.text.specs.Lines.{letter_r, letter_b, letter_j, print_line}
 use Rattle.text.specs.JobText.{between}
 use Rattle.text.specs.ReadReplies.{written_over}
-use Rattle.text.specs.declared.WriteAnswer.{WriteAnswer}
-use Rattle.text.specs.declared.WriteAnswer.TheVariants as a
+use Rattle.text.specs.declared.WriteRefusal.{WriteRefusal}
+use Rattle.text.specs.declared.WriteRefusal.TheVariants.{BadTable, Unsound, ShortBuffer}
 
 -- ---- sound logs
 
@@ -187,18 +187,16 @@ abbrev pub write_reply : List ℕ → List ℕ → List ℕ → WriteReply
 write_reply sources log buffer = tested_reply routes_text sources log buffer
 
 -- 01's numbers for each case of the answer
-abbrev pub write_refusal : WriteAnswer → List ℕ
-write_refusal (a.Written bytes) = []
-write_refusal (a.BadTable table) = 5 ∷ table ∷ []
-write_refusal (a.Unsound word) = 10 ∷ word ∷ []
-write_refusal (a.ShortBuffer needed) = 11 ∷ needed ∷ []
+abbrev pub write_refusal : Result ℕ WriteRefusal → List ℕ
+write_refusal (Ok bytes) = []
+write_refusal (Err (BadTable table)) = 5 ∷ table ∷ []
+write_refusal (Err (Unsound word)) = 10 ∷ word ∷ []
+write_refusal (Err (ShortBuffer needed)) = 11 ∷ needed ∷ []
 
-abbrev pub written_bytes : WriteAnswer → ℕ
-written_bytes (a.Written bytes) = bytes
-written_bytes (a.BadTable table) = 0
-written_bytes (a.Unsound word) = 0
-written_bytes (a.ShortBuffer needed) = 0
+abbrev pub written_bytes : Result ℕ WriteRefusal → ℕ
+written_bytes (Ok bytes) = bytes
+written_bytes (Err refusal) = 0
 
 -- the answer with the buffer at the call's end
-abbrev pub write_reply_of : WriteAnswer → List ℕ → WriteReply
+abbrev pub write_reply_of : Result ℕ WriteRefusal → List ℕ → WriteReply
 write_reply_of r buffer = record { refusal = write_refusal r; bytes = written_bytes r; buffer = buffer }

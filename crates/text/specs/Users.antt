@@ -1,6 +1,6 @@
 -- Request 2.11, "nets whose final tree has the node", counted for every node of a sound log: what is answered and left.
 -- Assumes nothing.
-use Rattle.std.specs.Prelude.{List, ℕ, min, ltb, length}
+use Rattle.std.specs.Prelude.{List, ℕ, min, ltb, length, Result, Ok, Err}
 use Rattle.price.specs.Test.{choose}
 use Rattle.price.specs.Bounds.{nodes_most}
 use Rattle.price.specs.Lists.{has, up_to, count_below}
@@ -8,8 +8,8 @@ use Rattle.job.specs.Tables.{nets_most}
 use Rattle.negotiation.specs.Records.{Record, decode}
 use Rattle.negotiation.specs.Demand.{tree_read}
 use Rattle.text.specs.Routes.{Named, log_sound, sound_words, last_iteration}
-use Rattle.text.specs.declared.log_check.LogCheck.{LogCheck}
-use Rattle.text.specs.declared.log_check.LogCheck.TheVariants as k
+use Rattle.text.specs.declared.log_check.SoundLog.{SoundLog}
+use Rattle.text.specs.declared.log_check.UnsoundLog.{UnsoundLog}
 
 -- ---- the test of a log
 
@@ -22,9 +22,9 @@ unfoldable pub log_checked : Named → List ℕ → Checked
 log_checked named ws =
     choose (log_sound named ws) (sound (last_iteration (decode ws)) (length (decode ws))) (unsound (sound_words named ws))
 
-abbrev pub checked_at : LogCheck → Checked
-checked_at (k.Sound iteration turns) = sound iteration turns
-checked_at (k.Unsound word) = unsound word
+abbrev pub checked_at : Result SoundLog UnsoundLog → Checked
+checked_at (Ok log) = sound log.iteration log.turns
+checked_at (Err log) = unsound log.word
 
 -- nets below 512, without table 5; "A record with a node the block lacks is unsound too", nor is one from 4,096 on a node
 abbrev pub below_nodes : ℕ → Named
@@ -50,5 +50,5 @@ users_reply named log users =
     }
 
 -- the answer with the users at the call's end
-abbrev pub users_reply_of : LogCheck → List ℕ → UsersReply
+abbrev pub users_reply_of : Result SoundLog UnsoundLog → List ℕ → UsersReply
 users_reply_of r users = record { checked = checked_at r; users = users }

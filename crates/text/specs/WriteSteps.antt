@@ -15,6 +15,17 @@ use Rattle.text.specs.declared.Style.TheVariants as s
 abbrev pub next_at : List ℕ → ℕ → ℕ
 next_at log at = at + 6 + get_or log (at + 5) 0
 
+-- the words from a place up to another
+abbrev pub part : List ℕ → ℕ → ℕ → List ℕ
+part log from to = take (to - from) (drop from log)
+
+-- the numbers and the path of the record at a place, and the place after it
+pub record RecordAt (log : List ℕ) (at iteration net : ℕ) (path : List ℕ) (end : ℕ) : Type 0 where
+  pub iteration-is : iteration ≡ get_or log at 0
+  pub net-is : net ≡ get_or log (at + 1) 0
+  pub path-is : path ≡ part log (at + 6) end
+  pub end-is : end ≡ next_at log at
+
 -- the bytes stand in the buffer from a place to the next
 pub record Put (at : ℕ) (bytes before after : List ℕ) (next : ℕ) : Type 0 where
   pub written : after ≡ placed at bytes before
@@ -60,10 +71,6 @@ pub record LogTested (log : List ℕ) (iteration turns : ℕ) : Type 0 where
 
 -- ---- the latest records of each net
 
--- the words from a place up to another
-abbrev pub part : List ℕ → ℕ → ℕ → List ℕ
-part log from to = take (to - from) (drop from log)
-
 -- the records of net i
 abbrev pub own_records : ℕ → List Record → List Record
 own_records i = passing (λ (r : Record). eqb r.net i)
@@ -74,6 +81,11 @@ pub record Latest (log : List ℕ) (i from to : ℕ) : Type 0 where
   pub within : to ≤ length log
   pub part_sound : AllSound (part log from to)
   pub own : own_records i (decode (part log from to)) ≡ final_records i (decode log)
+
+-- the words between them
+pub record LatestWords (log : List ℕ) (i : ℕ) (words : List ℕ) : Type 0 where
+  pub words_sound : AllSound words
+  pub own : own_records i (decode words) ≡ final_records i (decode log)
 
 -- two places for each net that may have records
 abbrev pub LatestPlaces : List ℕ → List ℕ → List ℕ → Type 0

@@ -14,6 +14,3 @@ pub const LIMIT_MOST: u32 = 100;
 pub const DELAY_MOST: u32 = 1000;
 
 pub const CRITICALITY_MOST: u32 = 9;
-
-// 2^64 − 1, where a byte count stops.
-pub const BYTES_MOST: u64 = 18446744073709551615;

@@ -1,30 +1,21 @@
 // The branches of a sound log, in either style: each net's in order, from its latest records. If the buffer lacks room, they are
 // only counted.
-ghost use Rattle.std.specs.Prelude.{◌≡◌, ◌+◌, ◌≤◌, length};
+ghost use Rattle.std.specs.Prelude.{◌≤◌};
 ghost use Rattle.negotiation.specs.Records.{decode};
 ghost use Rattle.job.specs.Tables.{nets_most};
-ghost use Rattle.text.specs.Routes.{branch_of, steps, record_branches, route_branches, capped};
+ghost use Rattle.text.specs.Routes.{branch_of, steps, record_branches, route_branches};
 ghost use Rattle.text.specs.Dot.{style_line, style_text};
-ghost use Rattle.text.specs.WriteSteps.{Filled, AllSound, part, own_records, LatestPlaces};
+ghost use Rattle.text.specs.WriteSteps.{Filled, AllSound, own_records, LatestPlaces};
 
-use crate::{Style, bounds, log_check, parts};
-
-// The sum, or 2^64 − 1 where that is less.
-pub fn capped_sum(a: u64, b: u64) -> u64
-    ensures { result ≡ capped (a + b) }
-{
-    if bounds::BYTES_MOST - a < b {
-        return bounds::BYTES_MOST;
-    }
-    a + b
-}
+use crate::latest::Latest;
+use crate::{Style, log_check, parts};
 
 // One line.
 fn put_branch(style: Style, net: u32, from: u32, to: u32, buffer: &mut [u8], at: u64) -> u64
     ensures { Filled at (style_line style (branch_of net from to)) buffer.old buffer.new result }
 {
     let long = parts::branch_length(style, net as u64, from as u64, to as u64) as u64;
-    let next = capped_sum(at, long);
+    let next = at.saturating_add(long);
     if next <= buffer.len() as u64 {
         parts::put_line(
             style,
@@ -38,25 +29,13 @@ fn put_branch(style: Style, net: u32, from: u32, to: u32, buffer: &mut [u8], at:
     next
 }
 
-// The steps of a net's path, which stands in a part of the log.
-fn put_steps(
-    style: Style,
-    log: &[u32],
-    from: usize,
-    to: usize,
-    net: u32,
-    buffer: &mut [u8],
-    start: u64,
-) -> u64
-    requires { (from ≤ to) × (to ≤ length log.now) }
-    ensures { let bytes = style_text style (steps net (part log.now from to)) in
-        Filled start bytes buffer.old buffer.new result }
+// The steps of a net's path.
+fn put_steps(style: Style, net: u32, path: &[u32], buffer: &mut [u8], start: u64) -> u64
+    ensures { Filled start (style_text style (steps net path.now)) buffer.old buffer.new result }
 {
     let mut next = start;
-    let mut k = from + 1;
-    while k < to {
-        next = put_branch(style, net, log[k - 1], log[k], buffer, next);
-        k += 1;
+    for k in 1..path.len() {
+        next = put_branch(style, net, path[k - 1], path[k], buffer, next);
     }
     next
 }
@@ -70,35 +49,31 @@ fn put_records(style: Style, log: &[u32], net: u32, buffer: &mut [u8], start: u6
     let mut next = start;
     let mut at = 0;
     while at < log.len() {
-        let end = log_check::record_end(log, at);
-        if log[at + 1] == net {
-            next = put_steps(style, log, at + 6, end, net, buffer, next);
+        let record = log_check::record_at(log, at);
+        if record.net == net {
+            next = put_steps(style, net, record.path, buffer, next);
         }
-        at = end;
+        at = record.end;
     }
     next
 }
 
-// The branches of the first nets, by the places of their latest records.
+// The branches of the first nets, from their latest records.
 pub fn put_branches(
     style: Style,
     log: &[u32],
     nets: usize,
-    from: &[usize],
-    to: &[usize],
+    latest: &Latest,
     buffer: &mut [u8],
     start: u64,
 ) -> u64
-    requires nets_le_nets_most { (nets ≤ nets_most) × (nets_most ≤ length from.now) × (nets_most ≤ length to.now) }
-    requires latest_places { LatestPlaces log.now from.now to.now }
+    requires { (nets ≤ nets_most) × LatestPlaces log.now latest.now.from latest.now.to }
     ensures { let bytes = style_text style (route_branches nets (decode log.now)) in
         Filled start bytes buffer.old buffer.new result }
 {
     let mut next = start;
-    let mut net = 0;
-    while net < nets {
-        next = put_records(style, &log[from[net]..to[net]], net as u32, buffer, next);
-        net += 1;
+    for net in 0..nets {
+        next = put_records(style, latest.of(log, net), net as u32, buffer, next);
     }
     next
 }

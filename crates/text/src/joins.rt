@@ -13,12 +13,10 @@ pub fn first_marks(source: &[u16]) -> [u8; NETS_MOST]
     ensures { (i : ℕ) → net_marked result i ≡ net_writable source.now i }
 {
     let mut marks = [0u8; NETS_MOST];
-    let mut net = 0;
-    while net < source.len() {
+    for net in 0..source.len() {
         if job::first_of(source, net) == net {
             marks[net] = 1;
         }
-        net += 1;
     }
     marks
 }
@@ -29,13 +27,11 @@ pub fn joins_length(source: &[u16]) -> u64
     ensures { (result ≡ length (join_text (route_joins source.now))) × (result ≤ 44 * nets_most) }
 {
     let mut bytes = 0;
-    let mut net = 0;
-    while net < source.len() {
+    for net in 0..source.len() {
         let first = job::first_of(source, net);
         if first != net {
             bytes += decimal::two_length(net as u64, first as u64) as u64;
         }
-        net += 1;
     }
     bytes
 }
@@ -46,13 +42,11 @@ pub fn put_joins(source: &[u16], buffer: &mut [u8], start: usize) -> usize
     ensures { Put start (join_text (route_joins source.now)) buffer.old buffer.new result }
 {
     let mut at = start;
-    let mut net = 0;
-    while net < source.len() {
+    for net in 0..source.len() {
         let first = job::first_of(source, net);
         if first != net {
             at = decimal::put_two(buffer, at, b'J', net as u64, first as u64);
         }
-        net += 1;
     }
     at
 }

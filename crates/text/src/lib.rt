@@ -9,7 +9,7 @@ ghost use Rattle.text.specs.ReadReplies.{Tables, tables_of, lowest_short, short_
 ghost use Rattle.text.specs.ReadSteps.{lowest_of_nine, RoomForAll, CountsWithin, job_taken, LineRow};
 ghost use Rattle.text.specs.Routes.{text_reply, write_reply, write_reply_of};
 ghost use Rattle.text.specs.Dot.{text_in, dot_reply, style_reply};
-ghost use Rattle.text.specs.WriteSteps.{LogTested, LatestPlaces};
+ghost use Rattle.text.specs.WriteSteps.{LogTested};
 ghost use Rattle.negotiation.specs.Records.{decode};
 ghost use Rattle.job.specs.Tables.{nets_most};
 
@@ -40,23 +40,31 @@ pub enum ReadAnswer {
 }
 
 // The two texts of a log: the lines of its routes, or their picture.
-#[derive(Clone, Copy)]
+#[derive(Clone, Copy, Debug, PartialEq, Eq)]
 pub enum Style {
     Lines,
     Picture,
 }
 
-// What the writer answers.
-#[derive(Clone, Copy)]
-pub enum WriteAnswer {
-    // This many bytes are written.
-    Written(usize),
+// Why the writer writes nothing.
+#[derive(Clone, Copy, Debug, PartialEq, Eq)]
+pub enum WriteRefusal {
     // 5: this table, the sources, breaks its rule.
     BadTable(u32),
     // 10: the record that begins at this word is unsound.
     Unsound(usize),
     // 11: the buffer is shorter than the text, which takes this many bytes.
     ShortBuffer(u64),
+}
+
+impl From<UnsoundLog> for WriteRefusal {
+    ghost use Rattle.text.specs.declared.WriteRefusal.TheVariants.{Unsound};
+
+    ghost from_gives = { λ log refusal. refusal ≡ Unsound log.word };
+
+    fn from(log: UnsoundLog) -> WriteRefusal {
+        WriteRefusal::Unsound(log.word)
+    }
 }
 
 mod bounds;
@@ -83,7 +91,7 @@ mod users;
 
 pub use fields::byte_is;
 use job::{FIRST_SINKS_MOST, NETS_MOST, Terms};
-pub use log_check::LogCheck;
+pub use log_check::{SoundLog, UnsoundLog};
 pub use printing::print_line;
 use reader::JobLines;
 use search::{EDGES_MOST, FIRST_EDGES_MOST, NODES_MOST, SINKS_MOST};
@@ -387,75 +395,50 @@ pub fn read_job(
     }
 }
 
-// Writes a text of a sound log with this last iteration and this many turns, by the places of the nets' latest records.
-fn write_lines(
-    style: Style,
-    source: &[u16],
-    log: &[u32],
-    from: &[usize],
-    to: &[usize],
-    iteration: u32,
-    turns: usize,
-    buffer: &mut [u8],
-) -> WriteAnswer
-    requires source_len_bound { (length source.now ≤ nets_most) × LogTested log.now iteration turns }
-    requires nets_most_in_bounds { (nets_most ≤ length from.now) × (nets_most ≤ length to.now) × LatestPlaces log.now from.now to.now }
-    ensures { write_reply_of result buffer.new
-        ≡ text_reply (text_in style source.now (decode log.now)) buffer.old }
-{
-    let mut none = [0u8; 0];
-    let head = parts::head_length(style, iteration as u64, turns as u64) as u64;
-    let needed = branches::capped_sum(
-        head + parts::tail_length(style, source),
-        branches::put_branches(style, log, source.len(), from, to, &mut none, 0),
-    );
-    if (buffer.len() as u64) < needed {
-        return WriteAnswer::ShortBuffer(needed);
-    }
-    let at = parts::put_head(style, buffer, iteration as u64, turns as u64);
-    let next = branches::put_branches(style, log, source.len(), from, to, buffer, at as u64);
-    WriteAnswer::Written(parts::put_tail(style, source, buffer, next as usize))
-}
-
-// Finds these places and writes the text.
+// Writes a text of a sound log: what it takes is counted first.
 fn write_text(
     style: Style,
     source: &[u16],
     log: &[u32],
-    iteration: u32,
-    turns: usize,
+    found: SoundLog,
     buffer: &mut [u8],
-) -> WriteAnswer
-    requires { (length source.now ≤ nets_most) × LogTested log.now iteration turns }
+) -> Result<usize, WriteRefusal>
+    requires { (length source.now ≤ nets_most) × LogTested log.now found.iteration found.turns }
     ensures { write_reply_of result buffer.new
         ≡ text_reply (text_in style source.now (decode log.now)) buffer.old }
 {
-    let mut from = [0usize; NETS_MOST];
-    let mut to = [0usize; NETS_MOST];
-    latest::latest_records(log, &mut from, &mut to);
-    write_lines(style, source, log, &from, &to, iteration, turns, buffer)
+    let latest = latest::latest_records(log);
+    let head = parts::head_length(style, found.iteration as u64, found.turns as u64) as u64;
+    let body = branches::put_branches(style, log, source.len(), &latest, &mut [], 0);
+    let needed = (head + parts::tail_length(style, source)).saturating_add(body);
+    if (buffer.len() as u64) < needed {
+        return Err(WriteRefusal::ShortBuffer(needed));
+    }
+    let at = parts::put_head(style, buffer, found.iteration as u64, found.turns as u64);
+    let next = branches::put_branches(style, log, source.len(), &latest, buffer, at as u64);
+    Ok(parts::put_tail(style, source, buffer, next as usize))
 }
 
 // Writes either text of a log, after the writer's tests of table 5 and of the log.
-pub fn write_style(style: Style, source: &[u16], log: &[u32], buffer: &mut [u8]) -> WriteAnswer
+pub fn write_style(
+    style: Style,
+    source: &[u16],
+    log: &[u32],
+    buffer: &mut [u8],
+) -> Result<usize, WriteRefusal>
     ensures answers { write_reply_of result buffer.new
         ≡ style_reply style source.now log.now buffer.old }
 {
     if !job::sources_sound(NODES_MOST, source) {
-        return WriteAnswer::BadTable(5);
+        return Err(WriteRefusal::BadTable(5));
     }
-    let marks = joins::first_marks(source);
-    match log_check::check_log(&marks, NODES_MOST, log) {
-        LogCheck::Sound { iteration, turns } => {
-            write_text(style, source, log, iteration, turns, buffer)
-        }
-        LogCheck::Unsound(word) => WriteAnswer::Unsound(word),
-    }
+    let found = log_check::check_log(&joins::first_marks(source), NODES_MOST, log)?;
+    write_text(style, source, log, found, buffer)
 }
 
 // Writes the routes text of a log: its last record's iteration with the turn count, each net's branches of its latest
 // records, and the nets of table 5 that are joined into another.
-pub fn write_routes(source: &[u16], log: &[u32], buffer: &mut [u8]) -> WriteAnswer
+pub fn write_routes(source: &[u16], log: &[u32], buffer: &mut [u8]) -> Result<usize, WriteRefusal>
     ensures answers { write_reply_of result buffer.new
         ≡ write_reply source.now log.now buffer.old }
 {
@@ -463,7 +446,7 @@ pub fn write_routes(source: &[u16], log: &[u32], buffer: &mut [u8]) -> WriteAnsw
 }
 
 // Writes the same branches as a picture in the DOT language of Graphviz.
-pub fn write_dot(source: &[u16], log: &[u32], buffer: &mut [u8]) -> WriteAnswer
+pub fn write_dot(source: &[u16], log: &[u32], buffer: &mut [u8]) -> Result<usize, WriteRefusal>
     ensures answers { write_reply_of result buffer.new
         ≡ dot_reply source.now log.now buffer.old }
 {

@@ -1,121 +1,103 @@
 // Whether a log is sound.
-ghost use Rattle.std.specs.Prelude.{◌≡◌, ℕ, ◌-◌, ◌≤◌, ltb, length, take, drop};
-ghost use Rattle.price.specs.Lists.{every};
+ghost use Rattle.std.specs.Prelude.{◌≡◌, ◌≤◌, ltb, length};
+ghost use Rattle.std.specs.List.{list_all};
 ghost use Rattle.text.specs.Routes.{path_sound, record_sound};
 ghost use Rattle.text.specs.Users.{log_checked, checked_at};
-ghost use Rattle.text.specs.WriteSteps.{next_at, net_marked, named_by};
+ghost use Rattle.text.specs.WriteSteps.{RecordAt, next_at, net_marked, named_by};
 
 use crate::bounds;
+use search::NODES_MOST;
 
-// What the test of a log answers.
-#[derive(Clone, Copy)]
-pub enum LogCheck {
-    // The last record's iteration, and how many records there are.
-    Sound { iteration: u32, turns: usize },
-    // The first word of the first unsound record.
-    Unsound(usize),
+// What a sound log has: its last record's iteration, and how many records there are.
+#[derive(Clone, Copy, Debug, PartialEq, Eq)]
+pub struct SoundLog {
+    pub iteration: u32,
+    pub turns: usize,
 }
 
-// Every word of a part is a node number, below this bound.
-fn nodes_sound(nodes: usize, log: &[u32], from: usize, to: usize) -> bool
-    requires { (from ≤ to) × (to ≤ length log.now) }
-    ensures { result ≡ every (λ (v : ℕ). ltb v nodes) (take (to - from) (drop from log.now)) }
-{
-    let mut k = from;
-    while k < to {
-        if nodes <= log[k] as usize {
-            return false;
-        }
-        k += 1;
-    }
-    true
+// A log whose first unsound record begins at this word.
+#[derive(Clone, Copy, Debug, PartialEq, Eq)]
+pub struct UnsoundLog {
+    pub word: usize,
 }
 
-// The path of the record at this place, of this many words, is whole and sound.
-fn path_sound(nodes: usize, log: &[u32], at: usize, n: u32, sink: u32) -> bool
-    requires { at ≤ length log.now }
-    ensures { result ≡ path_sound nodes n sink (drop at log.now) }
+// Every word is the number of a node, below this bound.
+fn nodes_below(nodes: usize, path: &[u32]) -> bool
+    ensures { result ≡ list_all (λ v. ltb v nodes) path.now }
 {
-    if n < 2 {
-        return false;
-    }
-    if bounds::NODES_MOST < n {
-        return false;
-    }
-    if log.len() - at < 6 + n as usize {
-        return false;
-    }
-    let from = at + 6;
-    let to = from + n as usize;
-    if !nodes_sound(nodes, log, from, to) {
-        return false;
-    }
-    log[to - 1] == sink
+    path.iter().all(|v| (*v as usize) < nodes)
+}
+
+// The path of the record that begins these words, n of them, is whole and sound: nodes below the bound, the last of them the sink.
+fn path_sound(nodes: usize, words: &[u32], n: usize, sink: u32) -> bool
+    ensures { result ≡ path_sound nodes n sink words.now }
+{
+    (2..=NODES_MOST).contains(&n)
+        && 6 + n <= words.len()
+        && nodes_below(nodes, &words[6..6 + n])
+        && words[5 + n] == sink
 }
 
 // The net bears the mark 1.
 fn net_marked(marks: &[u8], net: u32) -> bool
     ensures { result ≡ net_marked marks.now net }
 {
-    let place = net as usize;
-    if marks.len() <= place {
-        return false;
-    }
-    marks[place] == 1
+    (net as usize) < marks.len() && marks[net as usize] == 1
 }
 
-// The record at this place is whole and sound, after one of this iteration, its net is marked and its nodes are below the bound.
-fn record_sound(marks: &[u8], nodes: usize, log: &[u32], at: usize, last: u32) -> bool
-    requires { at ≤ length log.now }
-    ensures { result ≡ record_sound (named_by marks.now nodes) last (drop at log.now) }
+// The record that begins these words is whole and sound, after one of this iteration, its net is marked and its nodes are below the
+// bound.
+fn record_sound(marks: &[u8], nodes: usize, words: &[u32], last: u32) -> bool
+    ensures { result ≡ record_sound (named_by marks.now nodes) last words.now }
 {
-    if log.len() - at < 6 {
-        return false;
-    }
-    let iteration = log[at];
-    if iteration < 1 {
-        return false;
-    }
-    if bounds::LIMIT_MOST < iteration {
-        return false;
-    }
-    if iteration < last {
-        return false;
-    }
-    if !net_marked(marks, log[at + 1]) {
-        return false;
-    }
-    path_sound(nodes, log, at, log[at + 5], log[at + 2])
+    6 <= words.len()
+        && (1..=bounds::LIMIT_MOST).contains(&words[0])
+        && last <= words[0]
+        && net_marked(marks, words[1])
+        && path_sound(nodes, words, words[5] as usize, words[2])
 }
 
-// The place after a record that the log has whole.
-pub fn record_end(log: &[u32], at: usize) -> usize
+// A record of a log: its iteration, its net, its path, and the place after it.
+#[derive(Clone, Copy)]
+pub struct Record<'a> {
+    pub iteration: u32,
+    pub net: u32,
+    pub path: &'a [u32],
+    pub end: usize,
+}
+
+// The record at a place, which the log has whole.
+pub fn record_at(log: &[u32], at: usize) -> Record<'_>
     requires { next_at log.now at ≤ length log.now }
-    ensures { result ≡ next_at log.now at }
+    ensures { RecordAt log.now at result.iteration result.net result.path.now result.end }
 {
-    at + 6 + log[at + 5] as usize
+    let end = at + 6 + log[at + 5] as usize;
+    Record {
+        iteration: log[at],
+        net: log[at + 1],
+        path: &log[at + 6..end],
+        end,
+    }
 }
 
 // Goes from record to record, each of which is of a marked net and of nodes below the bound.
-pub fn check_log(marks: &[u8], nodes: usize, log: &[u32]) -> LogCheck
+pub fn check_log(marks: &[u8], nodes: usize, log: &[u32]) -> Result<SoundLog, UnsoundLog>
     ensures { checked_at result ≡ log_checked (named_by marks.now nodes) log.now }
 {
     let mut at = 0;
     let mut iteration = 0;
     let mut turns = 0;
     while at < log.len() {
-        if !record_sound(marks, nodes, log, at, iteration) {
-            return LogCheck::Unsound(at);
+        if !record_sound(marks, nodes, &log[at..], iteration) {
+            return Err(UnsoundLog { word: at });
         }
-        iteration = log[at];
-        at = record_end(log, at);
+        let record = record_at(log, at);
+        iteration = record.iteration;
+        at = record.end;
         turns += 1;
     }
     if turns == 0 {
-        return LogCheck::Unsound(0);
+        return Err(UnsoundLog { word: 0 });
     }
-    LogCheck::Sound {
-        iteration: iteration,
-        turns: turns,
-    }
+    Ok(SoundLog { iteration, turns })
 }

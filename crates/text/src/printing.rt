@@ -5,33 +5,30 @@ ghost use Rattle.text.specs.Routes.{capped};
 ghost use Rattle.text.specs.WriteSteps.{Put};
 ghost use Rattle.text.specs.LineReplies.{place_reply_of, line_reply};
 
-use crate::{branches, decimal};
+use crate::decimal;
+use crate::decimal::LF;
 
 // The bytes of a line with these fields, or 2^64 − 1 where that is less: the letter, a comma and a number each, and LF.
 fn line_length(fields: &[u64]) -> u64
     ensures { result ≡ capped (length (print_line 0 fields.now)) }
 {
     let mut bytes: u64 = 1;
-    let mut k = 0;
-    while k < fields.len() {
-        bytes = branches::capped_sum(bytes, 1 + decimal::digit_count(fields[k]) as u64);
-        k += 1;
+    for field in fields {
+        bytes = bytes.saturating_add(1 + decimal::digit_count(*field) as u64);
     }
-    branches::capped_sum(bytes, 1)
+    bytes.saturating_add(1)
 }
 
-// Writes the fields, each after a comma, then 10, which is LF.
+// Writes the fields, each after a comma, then LF.
 fn put_fields(fields: &[u64], buffer: &mut [u8], start: usize) -> usize
     requires { start + length (print_fields fields.now) ≤ length buffer.old }
     ensures { Put start (print_fields fields.now) buffer.old buffer.new result }
 {
     let mut at = start;
-    let mut k = 0;
-    while k < fields.len() {
-        at = decimal::put_field(buffer, at, fields[k]);
-        k += 1;
+    for field in fields {
+        at = decimal::put_field(buffer, at, *field);
     }
-    decimal::put_byte(buffer, at, 10)
+    decimal::put_byte(buffer, at, LF)
 }
 
 // Prints a line with this letter and these fields from a place of the buffer on, and gives the place after it.
@@ -39,10 +36,7 @@ fn put_fields(fields: &[u64], buffer: &mut [u8], start: usize) -> usize
 pub fn print_line(letter: u8, fields: &[u64], buffer: &mut [u8], at: usize) -> usize
     ensures answers { place_reply_of result buffer.new ≡ line_reply letter fields.now at buffer.old }
 {
-    if buffer.len() < at {
-        return at;
-    }
-    if ((buffer.len() - at) as u64) < line_length(fields) {
+    if buffer.len() < at || ((buffer.len() - at) as u64) < line_length(fields) {
         return at;
     }
     let next = decimal::put_byte(buffer, at, letter);

@@ -1,6 +1,5 @@
 // How many nets' final trees have each node of a sound log.
-ghost use Rattle.std.specs.Prelude.{◌≡◌, ℕ, ◌≤◌, ◌<◌, min, length, get_or};
-ghost use Rattle.std.proofs.Math.Seq.{slice};
+ghost use Rattle.std.specs.Prelude.{◌≡◌, ℕ, ◌≤◌, ◌<◌, length, get_or};
 ghost use Rattle.price.specs.Bounds.{nodes_most};
 ghost use Rattle.price.specs.Lists.{up_to};
 ghost use Rattle.negotiation.specs.Records.{decode, path_nodes};
@@ -10,33 +9,24 @@ ghost use Rattle.text.specs.Users.{below_nodes, nets_with, users_reply, users_re
 ghost use Rattle.text.specs.UserSteps.{Counted, FewUsers};
 ghost use Rattle.text.specs.WriteSteps.{AllSound, own_records, LatestPlaces};
 
-use crate::log_check::LogCheck;
-use crate::{bounds, latest, log_check};
+use crate::latest::Latest;
+use crate::log_check::{SoundLog, UnsoundLog};
+use crate::{latest, log_check};
 use job::NETS_MOST;
 use search::NODES_MOST;
 
-// Counts each node between two places of the log that doesn't bear the stamp, and stamps it.
-fn count_path(
-    log: &[u32],
-    from: usize,
-    to: usize,
-    stamp: u16,
-    users: &mut [u16],
-    stamps: &mut [u16],
-)
-    requires from_le_to { (from ≤ to) × (to ≤ length log.now) × (length users.old ≡ length stamps.old) }
-    requires all_below { AllBelow (length users.old) (slice from to log.now) × FewUsers stamp users.old stamps.old }
-    ensures { Counted stamp (slice from to log.now) users.old stamps.old
-        users.new stamps.new }
+// Counts each node of a path that doesn't bear the stamp, and stamps it.
+fn count_path(path: &[u32], stamp: u16, users: &mut [u16], stamps: &mut [u16])
+    requires as_long { length users.old ≡ length stamps.old }
+    requires all_below { AllBelow (length users.old) path.now × FewUsers stamp users.old stamps.old }
+    ensures { Counted stamp path.now users.old stamps.old users.new stamps.new }
 {
-    let mut k = from;
-    while k < to {
-        let v = log[k] as usize;
+    for node in path {
+        let v = *node as usize;
         if stamps[v] != stamp {
             users[v] += 1;
         }
         stamps[v] = stamp;
-        k += 1;
     }
 }
 
@@ -49,32 +39,30 @@ fn count_records(log: &[u32], net: u32, stamp: u16, users: &mut [u16], stamps: &
 {
     let mut at = 0;
     while at < log.len() {
-        let end = log_check::record_end(log, at);
-        if log[at + 1] == net {
-            count_path(log, at + 6, end, stamp, users, stamps);
+        let record = log_check::record_at(log, at);
+        if record.net == net {
+            count_path(record.path, stamp, users, stamps);
         }
-        at = end;
+        at = record.end;
     }
 }
 
-// Counts every net's latest records, by their places.
-fn count_nets(log: &[u32], from: &[usize], to: &[usize], users: &mut [u16], stamps: &mut [u16])
-    requires from_len { (length from.now ≡ nets_most) × (length to.now ≡ nets_most) × LatestPlaces log.now from.now to.now }
+// Counts every net's latest records.
+fn count_nets(log: &[u32], latest: &Latest, users: &mut [u16], stamps: &mut [u16])
+    requires latest_places { LatestPlaces log.now latest.now.from latest.now.to }
     requires users_len { (length users.old ≡ nodes_most) × (length stamps.old ≡ nodes_most)
         × ((v : ℕ) → (get_or users.old v 0 ≡ 0) × (get_or stamps.old v 0 ≡ 0)) }
     ensures { (length users.new ≡ nodes_most)
         × ((v : ℕ) → get_or users.new v 0 ≡ nets_with (decode log.now) v) }
 {
-    let mut net = 0;
-    while net < NETS_MOST {
+    for net in 0..NETS_MOST {
         count_records(
-            &log[from[net]..to[net]],
+            latest.of(log, net),
             net as u32,
             net as u16 + 1,
             users,
             stamps,
         );
-        net += 1;
     }
 }
 
@@ -83,39 +71,23 @@ fn count_users(log: &[u32], users: &mut [u16; NODES_MOST])
     requires { AllSound log.now }
     ensures { users.new ≡ up_to (nets_with (decode log.now)) nodes_most }
 {
-    let mut from = [0usize; NETS_MOST];
-    let mut to = [0usize; NETS_MOST];
-    latest::latest_records(log, &mut from, &mut to);
+    let latest = latest::latest_records(log);
     let mut stamps = [0u16; NODES_MOST];
     *users = [0u16; NODES_MOST];
-    count_nets(log, &from, &to, users, &mut stamps);
-}
-
-// This many nodes, or 4,096 if that is less.
-fn few_nodes(nodes: usize) -> usize
-    ensures { result ≡ min nodes nodes_most }
-{
-    if NODES_MOST <= nodes {
-        return NODES_MOST;
-    }
-    nodes
+    count_nets(log, &latest, users, &mut stamps);
 }
 
 // How many nets' final trees have each node, of a log whose records name nets below 512 and nodes below this bound and 4,096.
 // Of an unsound log nothing is counted.
-pub fn node_users(nodes: usize, log: &[u32], users: &mut [u16; NODES_MOST]) -> LogCheck
+pub fn node_users(
+    nodes: usize,
+    log: &[u32],
+    users: &mut [u16; NODES_MOST],
+) -> Result<SoundLog, UnsoundLog>
     ensures answers { users_reply_of result users.new
         ≡ users_reply (below_nodes nodes) log.now users.old }
 {
-    let marks = [1u8; NETS_MOST];
-    match log_check::check_log(&marks, few_nodes(nodes), log) {
-        LogCheck::Sound { iteration, turns } => {
-            count_users(log, users);
-            LogCheck::Sound {
-                iteration: iteration,
-                turns: turns,
-            }
-        }
-        LogCheck::Unsound(word) => LogCheck::Unsound(word),
-    }
+    let found = log_check::check_log(&[1u8; NETS_MOST], nodes.min(NODES_MOST), log)?;
+    count_users(log, users);
+    Ok(found)
 }

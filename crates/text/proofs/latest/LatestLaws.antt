@@ -24,7 +24,7 @@ use Rattle.negotiation.specs.Records.{Record, decode}
 use Rattle.negotiation.specs.Demand.{latest}
 use Rattle.negotiation.proofs.FilterLaws.{latest-append}
 use Rattle.text.specs.Routes.{Named, path_words, path_sound, record_sound, sound_words, sound_up_to, passing, records_in, final_records}
-use Rattle.text.specs.WriteSteps.{next_at, AllSound, part, own_records, LatestPlaces}
+use Rattle.text.specs.WriteSteps.{next_at, AllSound, part, own_records, LatestPlaces, RecordAt}
 use Rattle.text.proofs.RecordTestLaws.{record_length, sound-net, sound_some, sound-rises, sound_lower}
 use Rattle.text.proofs.LogLaws.{sound_after, sound-next, first_record, record_at_lem, first_at, record_at, decode-next, decode-none}
 use Rattle.text.proofs.BranchLaws.{Rest, rest_next, sound-here}
@@ -377,14 +377,17 @@ module _ {log froms tos : List ℕ} {at : ℕ} (p : Finding log froms tos at) (l
   sound_now : record_sound p.rest.named p.rest.last (drop at log) ≡ true
   sound_now = sound-here p.rest l
 
-  pub finding_net : here < nets_most
-  finding_net = p.nets-few here (rw (get_or-drop at log 1 0) at (sound-net p.rest.named p.rest.last (drop at log) sound_now))
+  here-few : here < nets_most
+  here-few = p.nets-few here (rw (get_or-drop at log 1 0) at (sound-net p.rest.named p.rest.last (drop at log) sound_now))
+
+  pub finding_net : {iteration net end : ℕ} {path : List ℕ} → RecordAt log at iteration net path end → net < nets_most
+  finding_net read = rw read.net-is here-few
 
   places : NetPlaces p.rest.named log p.records at p.rest.last here (get_or froms here 0) (get_or tos here 0)
-  places = p.each here finding_net
+  places = p.each here here-few
 
-  pub finding_from : get_or froms here 0 < length log
-  finding_from = omega (arith, whole_le places.words, whole_le places.since)
+  pub finding_from : {iteration net end : ℕ} {path : List ℕ} → RecordAt log at iteration net path end → get_or froms net 0 < length log
+  finding_from read = rw read.net-is (omega (arith, whole_le places.words, whole_le places.since))
 
   some : 1 ≤ get_or log at 0
   some = rw (first_at log at) at (sound_some p.rest.named p.rest.last (drop at log) sound_now)
@@ -430,12 +433,13 @@ module _ {log froms tos : List ℕ} {at : ℕ} (p : Finding log froms tos at) (l
       }
 
   -- a net's first record of a later iteration than its others, or not
-  abbrev Anew : Bool → Type 0
-  Anew r = r ≡ either (eqb (get_or tos here 0) 0) (not (eqb (get_or log (get_or froms here 0) 0) (get_or log at 0)))
+  abbrev Anew : ℕ → Bool → Type 0
+  Anew net r = r ≡ either (eqb (get_or tos net 0) 0) (not (eqb (get_or log (get_or froms net 0) 0) (get_or log at 0)))
 
-  pub finding_anew : {end : ℕ} {r : Bool} → end ≡ next_at log at → Anew r → r ≡ true → Finding log (set froms here at) (set tos here end) end
-  finding_anew is answer t =
-      let below = finding_net in
+  pub finding_anew : {iteration net end : ℕ} {path : List ℕ} {r : Bool} → RecordAt log at iteration net path end → Anew net r → r ≡ true → Finding log (set froms net at) (set tos net end) end
+  finding_anew read asked t =
+      let answer : Anew here _ = rw read.net-is at asked in
+      let below = here-few in
       let long = p.from_long in
       let long' = p.to-long in
       let up = rises in
@@ -456,18 +460,19 @@ module _ {log froms tos : List ℕ} {at : ℕ} (p : Finding log froms tos at) (l
       (le_or_lt (get_or log at 0) (latest here p.records)))
       (same_or_not (get_or tos here 0) 0))
       (anew_why (get_or tos here 0) (get_or log (get_or froms here 0) 0) (get_or log at 0) (sym answer ∙ t)) in
-      rw is
+      rw (read.net-is, read.end-is)
       (moved (length-set froms here at ∙ p.from_long) (length-set tos here (next_at log at) ∙ p.to-long)
       (λ i e. (get_or-set_other froms here i at 0 (λ q. e (sym q)), get_or-set_other tos here i (next_at log at) 0 (λ q. e (sym q))))
       (rw (get_or-set_same froms here at 0 (omega arith), get_or-set_same tos here (next_at log at) 0 (omega arith))
       (places_anew p.rest.last sound_now p.records refl older)))
 
-  pub finding_same : {end : ℕ} {r : Bool} → end ≡ next_at log at → Anew r → r ≡ false → Finding log froms (set tos here end) end
-  finding_same is answer t =
-      let below = finding_net in
+  pub finding_same : {iteration net end : ℕ} {path : List ℕ} {r : Bool} → RecordAt log at iteration net path end → Anew net r → r ≡ false → Finding log froms (set tos net end) end
+  finding_same read asked t =
+      let answer : Anew here _ = rw read.net-is at asked in
+      let below = here-few in
       let long = p.to-long in
       let why = same_why (get_or tos here 0) (get_or log (get_or froms here 0) 0) (get_or log at 0) (sym answer ∙ t) in
-      rw is
+      rw (read.net-is, read.end-is)
       (moved p.from_long (length-set tos here (next_at log at) ∙ p.to-long)
       (λ i e. (refl, get_or-set_other tos here i (next_at log at) 0 (λ q. e (sym q))))
       (rw (get_or-set_same tos here (next_at log at) 0 (omega arith)) (places_same p.rest.last sound_now p.records refl why.0 why.1 places)))

@@ -9,13 +9,13 @@ use native.Mathlib.Numerals.{add-one}
 use native.Mathlib.Omega.{arith}
 use lib.Dec.{eqb, ltb}
 use lib.ListN.{length, get_or, set, take, drop, length-set, drop_of_length-le}
-use lib.Seq.{get_or-set_same, get_or-set_other, get_or-drop, drop-drop, slice}
+use lib.Seq.{get_or-set_same, get_or-set_other, get_or-drop, drop-drop, take-suc}
 use borrow.Author.Tests.{eq-eqb, ne_eqb, eqb-true, eqb-false, ltb-true}
 use Rattle.price.specs.Test.{choose, both, either}
 use Rattle.price.specs.Bounds.{nodes_most}
 use Rattle.price.specs.Lists.{every, has, count_below}
 use Rattle.price.proofs.TestLaws.{by_test}
-use Rattle.price.proofs.ListLaws.{every-at, has-append, part_slice}
+use Rattle.price.proofs.ListLaws.{every-at, has-append}
 use Rattle.price.proofs.BelowLaws.{count_most_lem}
 use Rattle.negotiation.specs.Records.{decode, path_nodes}
 use Rattle.negotiation.specs.Demand.{tree_read}
@@ -23,7 +23,7 @@ use Rattle.job.specs.Steps.{AllBelow}
 use Rattle.job.specs.Tables.{nets_most}
 use Rattle.job.proofs.MarkLaws.{stored_none, stored_one, stored_append}
 use Rattle.text.specs.Routes.{path_words, passing}
-use Rattle.text.specs.WriteSteps.{next_at, AllSound, part, own_records, Latest}
+use Rattle.text.specs.WriteSteps.{next_at, AllSound, part, own_records, LatestWords, RecordAt}
 use Rattle.text.specs.Users.{nets_with}
 use Rattle.text.specs.UserSteps.{Counted, FewUsers}
 use Rattle.text.proofs.LogLaws.{long-at, decode-at, decode-none}
@@ -86,6 +86,17 @@ counted-append {stamp} {xs} {ys} {users} {stamps} s t = record {
   stamps-set = stored_append s.stamps-set t.stamps-set;
 }
 
+-- ---- a path, node after node
+
+-- the nodes of a path before a place are counted
+abbrev pub CountingPath : ℕ → List ℕ → List ℕ → List ℕ → List ℕ → List ℕ → ℕ → Type 0
+CountingPath stamp path users stamps users_now stamps_now k = Counted stamp (take k path) users stamps users_now stamps_now
+
+pub path_more :
+    {stamp : ℕ} (path : List ℕ) (k : ℕ) {users stamps users_now stamps_now users_later stamps_later : List ℕ} → CountingPath stamp path users stamps users_now stamps_now k
+    → k < length path → Counted stamp (get_or path k 0 ∷ []) users_now stamps_now users_later stamps_later → CountingPath stamp path users stamps users_later stamps_later (k + 1)
+path_more path k c l one = rw (add-one, take-suc path k 0 l) (counted-append c one)
+
 -- ---- no node has too many users
 
 few-more :
@@ -115,10 +126,10 @@ abbrev nodes_from_lem : ℕ → List ℕ → ℕ → List ℕ
 nodes_from_lem net log at = path_nodes (own_records net (decode (drop at log)))
 
 -- the path of the record at a place
-path-at : (log : List ℕ) (at : ℕ) → take (get_or log (at + 5) 0) (drop (at + 6) log) ≡ slice (at + 6) (next_at log at) log
+path-at : (log : List ℕ) (at : ℕ) → take (get_or log (at + 5) 0) (drop (at + 6) log) ≡ part log (at + 6) (next_at log at)
 path-at log at =
     let count : next_at log at - (at + 6) ≡ get_or log (at + 5) 0 = omega arith in
-    subst (λ (k : ℕ). take k (drop (at + 6) log) ≡ slice (at + 6) (next_at log at) log) count (part_slice (at + 6) (next_at log at) log)
+    rw count
 
 module _ {log : List ℕ} {at : ℕ} (p : Rest log at) (few : p.named.nodes ≤ nodes_most) (l : at < length log) where
   abbrev rest : List ℕ
@@ -127,21 +138,21 @@ module _ {log : List ℕ} {at : ℕ} (p : Rest log at) (few : p.named.nodes ≤ 
   abbrev path : List ℕ
   path = path_words (get_or rest 5 0) rest
 
-  path-is : path ≡ slice (at + 6) (next_at log at) log
+  path-is : path ≡ part log (at + 6) (next_at log at)
   path-is = rw (get_or-drop at log 5 0, drop-drop 6 at log) (path-at log at)
 
   nodes-sound : every (λ v. ltb v p.named.nodes) path ≡ true
   nodes-sound = (first_short p.named p.last rest (sound-here p l)).nodes-below
 
   -- its nodes are numbers of nodes
-  pub path-below : {end : ℕ} → end ≡ next_at log at → AllBelow nodes_most (slice (at + 6) end log)
-  path-below is =
-      rw is
+  pub path-below : {iteration own end : ℕ} {words : List ℕ} → RecordAt log at iteration own words end → AllBelow nodes_most words
+  path-below r =
+      rw (r.path-is, r.end-is)
       (subst (AllBelow nodes_most) path-is
       (λ k h. let low = ltb-true (get_or path k 0) p.named.nodes (every-at (λ v. ltb v p.named.nodes) path nodes-sound k h) in omega arith))
 
 module _ {log : List ℕ} {at : ℕ} (p : Rest log at) (l : at < length log) (net : ℕ) where
-  nodes_met : get_or log (at + 1) 0 ≡ net → nodes_from_lem net log at ≡ slice (at + 6) (next_at log at) log ++ nodes_from_lem net log (next_at log at)
+  nodes_met : get_or log (at + 1) 0 ≡ net → nodes_from_lem net log at ≡ part log (at + 6) (next_at log at) ++ nodes_from_lem net log (next_at log at)
   unfolding passing path_nodes
   nodes_met e =
       let long = long-at log at p.named p.last (sound-here p l) in
@@ -183,29 +194,29 @@ module _ {stamp net : ℕ} {log users stamps users_now stamps_now : List ℕ} {a
       p.whole users_now stamps_now (rw none (counted_none stamp users_now stamps_now))
 
   module _ (l : at < length log) where
-    module _ {end : ℕ} (is : end ≡ next_at log at) where
-      pub records_passed : (get_or log (at + 1) 0 ≡ net → ⊥) → CountingRecords stamp net log users stamps users_now stamps_now end
+    module _ {iteration own end : ℕ} {path : List ℕ} (r : RecordAt log at iteration own path end) where
+      pub records_passed : (own ≡ net → ⊥) → CountingRecords stamp net log users stamps users_now stamps_now end
       records_passed e =
           record {
-            rest = rw is (rest_next p.rest l);
+            rest = rw r.end-is (rest_next p.rest l);
             nodes-few = p.nodes-few;
             few = p.few;
             users-long = p.users-long;
             stamps-long = p.stamps-long;
-            whole = λ u s c. p.whole u s (rw (nodes_passed p.rest l net e, ← is) c);
+            whole = λ u s c. p.whole u s (rw (nodes_passed p.rest l net (λ q. e (r.net-is ∙ q)), ← r.end-is) c);
           }
 
       pub records_met :
-          {u s : List ℕ} → get_or log (at + 1) 0 ≡ net → Counted stamp (slice (at + 6) end log) users_now stamps_now u s
+          {u s : List ℕ} → own ≡ net → Counted stamp path users_now stamps_now u s
           → CountingRecords stamp net log users stamps u s end
       records_met e q =
           record {
-            rest = rw is (rest_next p.rest l);
+            rest = rw r.end-is (rest_next p.rest l);
             nodes-few = p.nodes-few;
             few = few-counted p.few q;
             users-long = q.users-long ∙ p.users-long;
             stamps-long = q.stamps-set.long ∙ p.stamps-long;
-            whole = λ v t c. p.whole v t (rw (nodes_met p.rest l net e, ← is) (counted-append q c));
+            whole = λ v t c. p.whole v t (rw (nodes_met p.rest l net (sym r.net-is ∙ e), ← r.end-is, ← r.path-is) (counted-append q c));
           }
 
 -- ---- net after net
@@ -238,11 +249,11 @@ module _ {log users stamps : List ℕ} {net : ℕ} (p : CountingNets log users s
   nets-few v = omega (arith, p.users-at v, p.within, count_most_lem (λ i. has v (tree_read i (decode log))) net)
 
   pub nets-more :
-      {from to : ℕ} {u s : List ℕ} → net < nets_most → Latest log net from to → Counted (net + 1) (path_nodes (own_records net (decode (part log from to)))) users stamps u s
+      {words u s : List ℕ} → net < nets_most → LatestWords log net words → Counted (net + 1) (path_nodes (own_records net (decode words))) users stamps u s
       → CountingNets log u s (net + 1)
   unfolding count_below
-  nets-more {from} {to} {u} {s} l latest c =
-      let tree : path_nodes (own_records net (decode (part log from to))) ≡ tree_read net (decode log) =
+  nets-more {words} {u} {s} l latest c =
+      let tree : path_nodes (own_records net (decode words)) ≡ tree_read net (decode log) =
       ap path_nodes latest.own ∙ sym (tree_read_lem net (decode log)) in
       let is : Counted (net + 1) (tree_read net (decode log)) users stamps u s = rw tree at c in
       record {

@@ -7,6 +7,8 @@ use mathlib.Core.Path.{◌≡◌, sym, ◌∙◌, ap, fun_ext}
 use Prim.Native.Nat.{ℕ, ◌≤◌, ◌<◌, min}
 use native.Mathlib.Omega.{arith}
 use lib.Dec.{ltb}
+use Rattle.std.proofs.Common.{Result, Ok, Err}
+use Rattle.std.specs.Prelude.{IsErrAnd}
 use lib.ListN.{replicate, get_or-replicate, length-replicate}
 use borrow.Author.Tests.{lt-ltb, le-ltb, ltb-true}
 use Rattle.price.specs.Bounds.{nodes_most}
@@ -17,8 +19,8 @@ use Rattle.negotiation.specs.Records.{decode}
 use Rattle.text.specs.Routes.{log_sound}
 use Rattle.text.specs.Users.{log_checked, checked_at, below_nodes, nets_with, users_reply, users_reply_of}
 use Rattle.text.specs.WriteSteps.{AllSound, LogTested, net_marked, named_by}
-use Rattle.text.specs.declared.log_check.LogCheck.{LogCheck}
-use Rattle.text.specs.declared.log_check.LogCheck.TheVariants as k
+use Rattle.text.specs.declared.log_check.SoundLog.{SoundLog}
+use Rattle.text.specs.declared.log_check.UnsoundLog.{UnsoundLog}
 use Rattle.text.proofs.RecordTestLaws.{marked-none}
 use Rattle.text.proofs.LogLaws.{found, found_none}
 
@@ -32,20 +34,23 @@ all-marked =
     (λ (l : i < nets_most). rw (get_or-replicate {A = ℕ} nets_most i 1 0 l) (sym (lt-ltb i nets_most l)))
     (le_or_lt nets_most i))
 
-module _ (nodes : ℕ) (log : List ℕ) {few : ℕ} {r : LogCheck} (bound : few ≡ min nodes nodes_most) (answered : checked_at r ≡ log_checked (named_by (replicate nets_most 1) few) log) where
-  tested : {s : LogCheck} → r ≡ s → checked_at s ≡ log_checked (below_nodes nodes) log
+module _ (nodes : ℕ) (log : List ℕ) {few : ℕ} {r : Result SoundLog UnsoundLog} (bound : few ≡ min nodes nodes_most) (answered : checked_at r ≡ log_checked (named_by (replicate nets_most 1) few) log) where
+  tested : {s : Result SoundLog UnsoundLog} → r ≡ s → checked_at s ≡ log_checked (below_nodes nodes) log
   tested e =
       sym (ap checked_at e)
       ∙ answered
       ∙ ap (λ (net : ℕ → Bool). log_checked (record { net = net; nodes = few }) log) all-marked
       ∙ ap (λ (n : ℕ). log_checked (record { net = λ i. ltb i nets_most; nodes = n }) log) bound
 
-  pub users-unsound : (users : List ℕ) {word : ℕ} → r ≡ k.Unsound word → users_reply_of (k.Unsound word) users ≡ users_reply (below_nodes nodes) log users
+  pub users-unsound :
+      (users : List ℕ) (s : Result SoundLog UnsoundLog) (e : UnsoundLog) → IsErrAnd s (λ x. x ≡ e) → r ≡ Err e
+      → users_reply_of s users ≡ users_reply (below_nodes nodes) log users
   unfolding users_reply
-  users-unsound users e = rw ((found_none (below_nodes nodes) log (tested e)).0, tested e)
+  users-unsound users (Ok log) e h is = absurd h
+  users-unsound users (Err x) e h is = rw (h, (found_none (below_nodes nodes) log (tested is)).0, tested is)
 
-  module _ {iteration turns : ℕ} (e : r ≡ k.Sound iteration turns) where
-    log-taken : (log_sound (below_nodes nodes) log ≡ true) × LogTested log iteration turns
+  module _ {s : SoundLog} (e : r ≡ Ok s) where
+    log-taken : (log_sound (below_nodes nodes) log ≡ true) × LogTested log s.iteration s.turns
     log-taken = found (below_nodes nodes) log (λ i t. ltb-true i nets_most t) (omega arith) (tested e)
 
     pub users-log : AllSound log
@@ -53,6 +58,6 @@ module _ (nodes : ℕ) (log : List ℕ) {few : ℕ} {r : LogCheck} (bound : few 
 
     pub users-sound :
         (users : List ℕ) {after : List ℕ} → after ≡ up_to (nets_with (decode log)) nodes_most
-        → users_reply_of (k.Sound iteration turns) after ≡ users_reply (below_nodes nodes) log users
+        → users_reply_of (Ok s) after ≡ users_reply (below_nodes nodes) log users
     unfolding users_reply
     users-sound users is = rw (log-taken.0, tested e, is)

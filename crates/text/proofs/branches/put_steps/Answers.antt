@@ -5,13 +5,13 @@ use Rattle.text.proofs.StepTextLaws.{putting_none, putting_more, putting_all}
 use Rattle.text.proofs.branches.put_steps.Goals as goal
 
 pub loop-k-init : goal.loop-k-init
-loop-k-init c = putting_none _ _ _ _ _ _ _ (search rules)
+loop-k-init c = putting_none _ _ _ _ _ (search rules)
 
 pub loop-k-preserved : goal.loop-k-preserved
-loop-k-preserved c = putting_more (search rules) c.loop-k.invariant (search rules) c.put_branch-next.ensures
+loop-k-preserved c = putting_more c.loop-k.invariant (search rules) c.put_branch-next.ensures
 
 pub shape_of-buffer : goal.shape_of-buffer
 shape_of-buffer c = c.loop-k.invariant.writing.filled.kept
 
 pub returns : goal.returns
-returns c = putting_all (search rules) c.loop-k.invariant (search rules)
+returns c = putting_all c.loop-k.invariant (search rules)

@@ -1,12 +1,7 @@
 -- `text::joins::joins_length` meets its contract. The loop's invariant: the bytes of the lines passed are counted.
 -- Assumes nothing.
-use Prim.Native.Nat.{◌-◌}
-use lib.ListN.{length}
 use Rattle.text.proofs.joins.JoinTextLaws.{JoinsCounted}
 use Rattle.text.proofs.joins.joins_length.Given as goal
 
 abbrev pub invariant-loop-net : goal.invariant-loop-net
 invariant-loop-net l = JoinsCounted l.source l.bytes l.net
-
-abbrev pub decreases-loop-net : goal.decreases-loop-net
-decreases-loop-net l = length l.source - l.net

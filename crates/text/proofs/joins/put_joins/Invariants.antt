@@ -1,12 +1,7 @@
 -- `text::joins::put_joins` meets its contract. The loop's invariant: the lines of the nets passed stand in the buffer.
 -- Assumes nothing.
-use Prim.Native.Nat.{◌-◌}
-use lib.ListN.{length}
 use Rattle.text.proofs.joins.JoinTextLaws.{JoinsPut}
 use Rattle.text.proofs.joins.put_joins.Given as goal
 
 abbrev pub invariant-loop-net : goal.invariant-loop-net
 invariant-loop-net l = JoinsPut l.source l.start l.initial.buffer l.buffer l.at l.net
-
-abbrev pub decreases-loop-net : goal.decreases-loop-net
-decreases-loop-net l = length l.source - l.net

@@ -11,13 +11,13 @@ use Rattle.std.proofs.Common.{rules}
 use borrow.Author.Tests.{not-true, not-false}
 use Rattle.text.specs.Routes.{record_sound}
 use Rattle.text.specs.WriteSteps.{next_at, named_by}
-use Rattle.text.proofs.LogLaws.{checking_none, checking_fits, checking_next, checked-unsound, checked-none, checked-sound}
+use Rattle.text.proofs.LogLaws.{checking_none, checking_fits, checking_next, words_on, checked-unsound, checked-none, checked-sound}
 use Rattle.text.proofs.log_check.check_log.Goals.{Else-not-record_sound}
 use Rattle.text.proofs.log_check.check_log.Goals as goal
 
 -- the record met is sound
 here : (c : Else-not-record_sound) → record_sound (named_by c.args.marks.now c.args.nodes) c.loop-at.iteration (drop c.loop-at.at c.args.log.now) ≡ true
-here c = sym c.record_sound.ensures ∙ not-false _ (ap not c.if-not-record_sound.false)
+here c = rw (words_on _ _ c.loop-at.invariant.within) at (sym c.record_sound.ensures ∙ not-false _ (ap not c.if-not-record_sound.false))
 
 -- the next one begins within the log
 next : (c : Else-not-record_sound) → next_at c.args.log.now c.loop-at.at ≤ length c.args.log.now
@@ -29,19 +29,19 @@ loop-at-init c = checking_none _ _
 pub returns-then-not-record_sound : goal.returns-then-not-record_sound
 returns-then-not-record_sound c =
     checked-unsound c.loop-at.invariant (search rules)
-    (sym c.record_sound.ensures ∙ not-true _ (ap not c.if-not-record_sound.true))
+    (rw (words_on _ _ c.loop-at.invariant.within) at (sym c.record_sound.ensures ∙ not-true _ (ap not c.if-not-record_sound.true)))
 
-pub record_end-at-requires : goal.record_end-at-requires
-record_end-at-requires c = next (goal.at.record_end-at-requires c).Else-not-record_sound
+pub record_at-record-requires : goal.record_at-record-requires
+record_at-record-requires c = next (goal.at.record_at-record-requires c).Else-not-record_sound
 
 pub overflow_add-turns : goal.overflow_add-turns
 overflow_add-turns c = omega (arith, next (goal.at.overflow_add-turns c).Else-not-record_sound)
 
 pub loop-at-smaller : goal.loop-at-smaller
-loop-at-smaller c = omega (arith, c.record_end-at.ensures, next (goal.at.loop-at-smaller c).Else-not-record_sound)
+loop-at-smaller c = omega (arith, c.record_at-record.ensures.end-is, next (goal.at.loop-at-smaller c).Else-not-record_sound)
 
 pub loop-at-preserved : goal.loop-at-preserved
-loop-at-preserved c = checking_next c.loop-at.invariant (here (goal.at.loop-at-preserved c).Else-not-record_sound) c.record_end-at.ensures
+loop-at-preserved c = checking_next c.loop-at.invariant (here (goal.at.loop-at-preserved c).Else-not-record_sound) c.record_at-record.ensures
 
 pub returns-then-turns-eq0 : goal.returns-then-turns-eq0
 returns-then-turns-eq0 c = checked-none c.loop-at.invariant (search rules) (search rules)

@@ -4,12 +4,12 @@ use Rattle.std.proofs.Common.{rules}
 use Rattle.text.proofs.LineReplyLaws.{measuring_none, measuring_more, measuring_all}
 use Rattle.text.proofs.printing.line_length.Goals as goal
 
-pub loop-k-init : goal.loop-k-init
-loop-k-init c = measuring_none _
+pub loop-field-init : goal.loop-field-init
+loop-field-init c = measuring_none _
 
-pub loop-k-preserved : goal.loop-k-preserved
-loop-k-preserved c =
-    measuring_more c.loop-k.invariant (search rules) c.digit_count.ensures.0 c.capped_sum-bytes.ensures
+pub loop-field-preserved : goal.loop-field-preserved
+loop-field-preserved c =
+    measuring_more c.loop-field.invariant (search rules) c.digit_count.ensures.0 c.saturating_add-bytes.ensures
 
 pub returns : goal.returns
-returns c = measuring_all c.loop-k.invariant (search rules) c.capped_sum.ensures
+returns c = measuring_all c.loop-field.invariant (search rules) c.saturating_add.ensures

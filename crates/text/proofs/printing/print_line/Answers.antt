@@ -7,7 +7,7 @@ use Rattle.std.proofs.Common.{rules}
 use Rattle.text.specs.Lines.{print_line}
 use Rattle.text.proofs.PlacedLaws.{put-room, put_letter_then}
 use Rattle.text.proofs.LineReplyLaws.{line_size, line-short, line-written}
-use Rattle.text.proofs.printing.print_line.Goals.{Else-buffer-at-2}
+use Rattle.text.proofs.printing.print_line.Goals.{Else-buffer-at-2, then-buffer-at-via-then-buffer-at, then-buffer-at-via-else-buffer-at+then-buffer-at-2}
 use Rattle.text.proofs.printing.print_line.Goals as goal
 
 -- the line fits
@@ -18,13 +18,14 @@ fits c =
     omega (arith, c.well_formed)
 
 pub returns-then-buffer-at : goal.returns-then-buffer-at
-returns-then-buffer-at c = record { answers = line-short _ _ _ _ (search rules) }
-
-pub returns-then-buffer-at-2 : goal.returns-then-buffer-at-2
-returns-then-buffer-at-2 c =
+returns-then-buffer-at c =
     let a = c.args in
     let size = line_size a.letter a.fields.now in
-    let counted = line_size 0 a.fields.now in record { answers = line-short _ _ _ _ (search rules) }
+    let counted = line_size 0 a.fields.now in
+    elim c.then-buffer-at.branch [
+      | then-buffer-at-via-then-buffer-at w ↦ record { answers = line-short _ _ _ _ (omega (arith, w.if-buffer-at.true)) }
+      | then-buffer-at-via-else-buffer-at+then-buffer-at-2 w ↦ record { answers = line-short _ _ _ _ (omega (arith, w.if-buffer-at.false, w.line_length.ensures, w.if-buffer-at-2.true)) }
+    ]
 
 pub put_byte-next-requires : goal.put_byte-next-requires
 put_byte-next-requires c =

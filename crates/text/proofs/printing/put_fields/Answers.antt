@@ -4,17 +4,17 @@ use Rattle.std.proofs.Common.{rules}
 use Rattle.text.proofs.LineReplyLaws.{filling_none, filling_room, filling_more, filling_all, filling_end}
 use Rattle.text.proofs.printing.put_fields.Goals as goal
 
-pub loop-k-init : goal.loop-k-init
-loop-k-init c = filling_none _ _ _ (search rules)
+pub loop-field-init : goal.loop-field-init
+loop-field-init c = filling_none _ _ _ (search rules)
 
 pub put_field-at-requires : goal.put_field-at-requires
-put_field-at-requires c = filling_room c.loop-k.invariant (search rules)
+put_field-at-requires c = filling_room c.loop-field.invariant (search rules)
 
-pub loop-k-preserved : goal.loop-k-preserved
-loop-k-preserved c = filling_more c.loop-k.invariant (search rules) c.put_field-at.ensures
+pub loop-field-preserved : goal.loop-field-preserved
+loop-field-preserved c = filling_more c.loop-field.invariant (search rules) c.put_field-at.ensures
 
 pub put_byte-requires : goal.put_byte-requires
-put_byte-requires c = filling_end c.loop-k.invariant (search rules)
+put_byte-requires c = filling_end c.loop-field.invariant (search rules)
 
 pub returns : goal.returns
-returns c = filling_all c.loop-k.invariant (search rules) c.put_byte.ensures
+returns c = filling_all c.loop-field.invariant (search rules) c.put_byte.ensures

@@ -1,12 +1,7 @@
 -- `text::users::count_nets` meets its contract. The loop's invariant: the trees of the nets passed are counted.
 -- Assumes nothing.
-use Prim.Native.Nat.{◌-◌}
-use Rattle.job.specs.Tables.{nets_most}
 use Rattle.text.proofs.users.UserLaws.{CountingNets}
 use Rattle.text.proofs.users.count_nets.Given as goal
 
 abbrev pub invariant-loop-net : goal.invariant-loop-net
 invariant-loop-net l = CountingNets l.log l.users l.stamps l.net
-
-abbrev pub decreases-loop-net : goal.decreases-loop-net
-decreases-loop-net l = nets_most - l.net
