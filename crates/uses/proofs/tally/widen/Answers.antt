@@ -6,17 +6,17 @@ use Rattle.text.proofs.CopyLaws.{copied_none, copied_next}
 use Rattle.uses.proofs.TallyLaws.{copied_whole}
 use Rattle.uses.proofs.tally.widen.Goals as goal
 
-pub loop-v-init : goal.loop-v-init
-loop-v-init c = (omega arith, copied_none _ _)
+pub loop-b-init : goal.loop-b-init
+loop-b-init c = (omega arith, copied_none _ _)
 
 pub overflow_cast-wide : goal.overflow_cast-wide
-overflow_cast-wide c = omega (arith, c.type_inv.bytes c.loop-v.v)
+overflow_cast-wide c = omega (arith, c.type_inv.bytes c.loop-b.b-index)
 
-pub loop-v-preserved : goal.loop-v-preserved
-loop-v-preserved c = (omega arith, copied_next _ _ _ _ c.loop-v.invariant.1 (omega arith) (omega arith))
+pub loop-b-preserved : goal.loop-b-preserved
+loop-b-preserved c = (omega arith, copied_next _ _ _ _ c.loop-b.invariant.1 (omega arith) (omega arith))
 
 pub shape_of-wide : goal.shape_of-wide
-shape_of-wide c = c.loop-v.invariant.1.same_length
+shape_of-wide c = c.loop-b.invariant.1.same_length
 
 pub returns : goal.returns
-returns c = copied_whole c.loop-v.invariant.1 c.loop-v.invariant.0 (search rules)
+returns c = copied_whole c.loop-b.invariant.1 c.loop-b.invariant.0 (search rules)
