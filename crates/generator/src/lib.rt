@@ -13,7 +13,7 @@ mod nets;
 mod nodes;
 mod rows;
 
-use ask::{Load, TurnedAway};
+use ask::Load;
 
 // Writes the text of a load.
 fn put_load(load: Load, buffer: &mut [u8]) -> usize
@@ -46,6 +46,6 @@ pub fn load_text(input: &[u8], buffer: &mut [u8; 16384]) -> usize
 {
     match ask::asked(input) {
         Ok(load) => put_load(load, buffer),
-        Err(TurnedAway { place }) => put_refusal(place, buffer),
+        Err(away) => put_refusal(away.place, buffer),
     }
 }

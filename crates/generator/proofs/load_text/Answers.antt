@@ -14,7 +14,7 @@ put_load-requires c =
 
 pub put_refusal-requires : goal.put_refusal-requires
 put_refusal-requires c =
-    let size = line_size c.in-Err.place in
+    let size = line_size c.in-Err.away.place in
     omega arith
 
 pub returns-in-Ok : goal.returns-in-Ok

@@ -23,7 +23,7 @@ returns-then-not-byte_is-clause-value c =
     let nodes = sym c.in-Some-next_field.ensures.value in
     let nets = sym c.in-Some-next_field-2.ensures.value in
     elim c.then-not-byte_is.branch [
-      then-not-byte_is-via-then-not-byte_is w ↦ sym (away_open _ seed nodes nets (sym c.byte_is.ensures ∙ w.if-not-byte_is.true))
+      | then-not-byte_is-via-then-not-byte_is w ↦ sym (away_open _ seed nodes nets (sym c.byte_is.ensures ∙ w.if-not-byte_is.true))
       | then-not-byte_is-via-else-not-byte_is+then-nets-input w ↦
           let next = c.in-Some-next_field-2.nets.next in
           let rest : List ℕ = drop next c.args.input.now in

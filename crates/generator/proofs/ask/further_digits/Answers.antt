@@ -22,7 +22,7 @@ loop-init c =
 
 pub returns-then-input-next : goal.returns-then-input-next
 returns-then-input-next c = elim c.then-input-next.branch [
-  then-input-next-via-then-input-next w ↦
+  | then-input-next-via-then-input-next w ↦
       let ended = digits_past c.loop.invariant w.if-input-next.true in
       record { value = ended.0; field_within = ended.1 }
   | then-input-next-via-else-input-next+then-not-is_digit w ↦

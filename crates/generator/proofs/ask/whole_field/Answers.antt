@@ -13,7 +13,7 @@ pub returns-then-not-field_ends : goal.returns-then-not-field_ends
 returns-then-not-field_ends c =
     let read = sym c.in_ok-field.ensures.value in
     elim c.then-not-field_ends.branch [
-      then-not-field_ends-via-then-not-field_ends w ↦ record {
+      | then-not-field_ends-via-then-not-field_ends w ↦ record {
         value = sym (whole_open _ _ _ _ read (sym c.field_ends.ensures ∙ w.if-not-field_ends.true));
         field_within = tt;
       }
