@@ -126,7 +126,7 @@ fn aims(text: &[u8]) -> bool {
 }
 
 // The lists of the nodes, table 9 of a timed case before them, and then the calls: the search that aims, or the search and the cheapest path.
-fn lists(text: &[u8], tables: Tables, weighting: Weighting, factor: u32) {
+fn lists<'x>(text: &'x [u8], tables: Tables<'x>, weighting: Weighting, factor: u32) {
     let mut delay = [0u16; 1025];
     let mut history = [0u32; 1025];
     let mut others = [0u16; 1025];
