@@ -1,15 +1,15 @@
 -- Bytes placed in a buffer: one piece behind the other, and a byte in front of others.
 -- Assumes nothing.
-use mathlib.Core.List.{List, [], ◌∷◌, ◌++◌, append_assoc, append-nil}
+use mathlib.Core.List.{List, [], ◌∷◌, ◌++◌, append_assoc}
 use mathlib.Core.Path.{◌≡◌, refl, sym, ◌∙◌, ap}
 use Prim.Native.Nat.{ℕ, suc, ◌+◌, ◌-◌, ◌/◌, ◌%◌, ◌^◌, ◌≤◌, ◌<◌}
 use native.Mathlib.Nat.{zero-add, add_assoc, add-zero}
 use native.Mathlib.Numerals.{add-one}
 use native.Mathlib.Omega.{arith}
-use lib.ListN.{length, take, drop, set, get_or, length-append, length-take, length-drop, length-set, take-append-drop, drop_of_length-le}
-use lib.Seq.{length-take-le, take_all, take-length, take_at, drop-append-add, drop-drop, take-suc, append_snoc, set_at, set_split}
+use lib.ListN.{length, take, drop, set, get_or, length-append, length-take, length-drop, length-set, take-append-drop}
+use lib.Seq.{length-take-le, take_at, drop-append-add, drop-drop, take-suc, append_snoc, set_at, set_split}
 use Rattle.text.specs.Decimal.{decimal}
-use Rattle.text.specs.Lines.{lf, comma, print_fields, print_line}
+use Rattle.text.specs.Lines.{comma, print_fields, print_line}
 use Rattle.text.specs.ReadReplies.{written_over}
 use Rattle.text.specs.WriteSteps.{Put}
 use Rattle.text.specs.LineReplies.{placed}
@@ -130,26 +130,14 @@ pub put-room : {at p : ℕ} {xs b₀ b₁ : List ℕ} → Put at xs b₀ b₁ p 
 put-room {at} {p} {xs} {b₀} {b₁} f k fits =
     rw (f.next-is, put-length f (omega arith)) (omega arith)
 
--- bytes copied to the front of what the buffer has from a place on
+-- bytes copied over the part of the buffer that begins at a place
 pub put-over :
-    (at : ℕ) (bytes buffer : List ℕ) {part : List ℕ} → at + length bytes ≤ length buffer
-    → part ≡ take (length bytes) bytes ++ drop (length bytes) (take (length buffer - at) (drop at buffer))
-    → Put at bytes buffer (take at buffer ++ (part ++ drop (length buffer - at) (drop at buffer))) (at + length bytes)
+    (at : ℕ) (bytes buffer : List ℕ) {part : List ℕ} → part ≡ bytes
+    → Put at bytes buffer (take at buffer ++ (part ++ drop (at + length bytes - at) (drop at buffer))) (at + length bytes)
 unfolding placed
-put-over at bytes buffer {part} fits e =
-    let short : length (drop at buffer) ≤ length buffer - at = rw (length-drop at buffer) (omega arith) in
-    record {
-      written =
-          rw (
-            drop_of_length-le (drop at buffer) short,
-            append-nil part,
-            e,
-            take-length bytes,
-            take_all (length buffer - at) (drop at buffer) short,
-            drop-drop (length bytes) at buffer,
-          );
-      next-is = refl;
-    }
+put-over at bytes buffer {part} e =
+    let long : at + length bytes - at ≡ length bytes = omega arith in
+    record { written = rw (e, long, drop-drop (length bytes) at buffer); next-is = refl }
 
 -- a piece before the rest
 pub put-onward :
@@ -174,8 +162,3 @@ pub put_letter_then :
     → (p + length (print_fields vs) ≤ length b₁ → Put p (print_fields vs) b₁ b₂ q) → Put at (print_line letter vs) b₀ b₂ q
 unfolding print_line
 put_letter_then {letter = letter} vs = put-onward (letter ∷ []) (print_fields vs)
-
--- LF is what a line without further fields has
-pub put_last : {p q : ℕ} {b₀ b₁ : List ℕ} → Put p (lf ∷ []) b₀ b₁ q → Put p (print_fields []) b₀ b₁ q
-unfolding print_fields
-put_last f = f

@@ -1,14 +1,14 @@
 -- Either text of a log: its three parts, and what the writer answers.
---     needed_sum, text-                what the text takes, and writing its parts one after the other
+--     text-                            its parts one after the other, counted and then written
 --     write-                           refusals before the text, and the text of a sound log
 -- Assumes nothing.
 use mathlib.Core.Bool.{Bool, true, false}
 use mathlib.Core.List.{List, [], ◌∷◌, ◌++◌}
-use mathlib.Core.Path.{◌≡◌, refl, sym, ◌∙◌, ap, fun_ext}
-use Prim.Native.Nat.{ℕ, ◌+◌, ◌^◌, ◌≤◌, ◌<◌}
+use mathlib.Core.Path.{◌≡◌, refl, sym, ◌∙◌, ap, subst, fun_ext}
+use Prim.Native.Nat.{ℕ, ◌-◌, ◌^◌, ◌≤◌, ◌<◌}
 use native.Mathlib.Omega.{arith}
 use lib.Dec.{ltb}
-use lib.ListN.{length, length-append}
+use lib.ListN.{length}
 use borrow.Author.Tests.{lt-ltb, le-ltb, ltb-true}
 use Rattle.price.specs.Bounds.{nodes_most}
 use Rattle.negotiation.specs.Records.{Record, decode}
@@ -19,31 +19,18 @@ use Rattle.job.proofs.JobLaws.{sources-few}
 use Rattle.text.specs.Routes.{WriteReply, net_writable, writable, route_branches, last_iteration, routes_text, capped, not_written, text_reply, tested_reply, write_refusal, write_reply_of}
 use Rattle.text.specs.Dot.{dot_text, style_text, text_in}
 use Rattle.text.specs.Users.{sound, unsound, log_checked}
-use Rattle.text.specs.WriteSteps.{Put, Filled, head_text, tail_text, net_marked, named_by, LogTested}
+use Rattle.text.specs.WriteSteps.{Filled, head_text, tail_text, net_marked, named_by, LogTested}
 use Rattle.std.proofs.Common.{Result, Ok, Err}
 use Rattle.std.specs.Prelude.{IsErrAnd}
 use Rattle.text.specs.declared.WriteRefusal.{WriteRefusal}
 use Rattle.text.specs.declared.Style.{Style}
 use Rattle.text.specs.declared.Style.TheVariants as s
 use Rattle.text.specs.ReadReplies.{written_over}
-use Rattle.text.proofs.PlacedLaws.{put-length, put_then, placed-start}
+use Rattle.text.proofs.PlacedLaws.{placed-start}
 use Rattle.text.proofs.LogLaws.{found, found_none}
-use Rattle.text.proofs.StepTextLaws.{filled_done}
+use Rattle.text.proofs.StepTextLaws.{filled_then}
 
 -- ---- the parts of the text
-
-abbrev pub body_text : Style → List ℕ → List ℕ → List ℕ
-body_text style sources log = style_text style (route_branches (length sources) (decode log))
-
--- the bytes of all three
-abbrev pub text_bytes : Style → ℕ → ℕ → List ℕ → List ℕ → ℕ
-text_bytes style iteration turns log sources = length (head_text style iteration turns) + (length (body_text style sources log) + length (tail_text style sources))
-
-pub needed_sum :
-    (style : Style) (iteration turns : ℕ) (log sources : List ℕ) {before after : List ℕ} {head tail body r : ℕ} →
-    head ≡ length (head_text style iteration turns) → tail ≡ length (tail_text style sources) → Filled 0 (body_text style sources log) before after body →
-    r ≡ capped (head + tail + body) → r ≡ capped (text_bytes style iteration turns log sources)
-needed_sum style iteration turns log sources d i e f = omega (arith, e.counted)
 
 -- either text is its parts
 parts : (style : Style) (sources : List ℕ) (rs : List Record) → text_in style sources rs ≡ head_text style (last_iteration rs) (length rs) ++ (style_text style (route_branches (length sources) rs) ++ tail_text style sources)
@@ -52,46 +39,36 @@ parts s.Lines sources rs = refl
 parts s.Picture sources rs = refl
 
 module _ {log : List ℕ} {iteration turns : ℕ} (style : Style) (f : LogTested log iteration turns) (sources : List ℕ) where
-  text_is : text_in style sources (decode log) ≡ head_text style iteration turns ++ (body_text style sources log ++ tail_text style sources)
+  text_is :
+      text_in style sources (decode log)
+      ≡ head_text style iteration turns ++ (style_text style (route_branches (length sources) (decode log)) ++ tail_text style sources)
   text_is = parts style sources (decode log) ∙ rw (← f.iteration-is, ← f.turns_are)
 
-  text_length : length (text_in style sources (decode log)) ≡ text_bytes style iteration turns log sources
-  text_length =
-      ap length text_is
-      ∙ omega (arith, length-append (head_text style iteration turns) (body_text style sources log ++ tail_text style sources), length-append (body_text style sources log) (tail_text style sources))
+  -- one after the other
+  pub text_filled :
+      {p q r : ℕ} {b₀ b₁ b₂ b₃ : List ℕ} → Filled 0 (head_text style iteration turns) b₀ b₁ p
+      → Filled p (style_text style (route_branches (length sources) (decode log))) b₁ b₂ q → Filled q (tail_text style sources) b₂ b₃ r
+      → Filled 0 (text_in style sources (decode log)) b₀ b₃ r
+  text_filled {r = r} {b₀ = b₀} {b₃ = b₃} h b t = subst (λ (text : List ℕ). Filled 0 text b₀ b₃ r) (sym text_is) (filled_then h (filled_then b t))
 
-  module _ (buffer : List ℕ) where
-    pub text_short :
-        {needed : ℕ} → needed ≡ capped (text_bytes style iteration turns log sources) → length buffer < needed →
-        not_written (11 ∷ needed ∷ []) buffer ≡ text_reply (text_in style sources (decode log)) buffer
-    unfolding text_reply
-    text_short {needed} e l =
-        let long = text_length in
-        let is : capped (length (text_in style sources (decode log))) ≡ needed = omega arith in
-        rw (lt-ltb (length buffer) (length (text_in style sources (decode log))) (omega arith), is)
+-- ---- counting first, then writing
 
-    module _ (short : length buffer < 2 ^ 64) (fits : text_bytes style iteration turns log sources ≤ length buffer) {middle : List ℕ} {at : ℕ} (p : Put 0 (head_text style iteration turns) buffer middle at) where
-      module _ {later : List ℕ} {next : ℕ} (g : Filled at (body_text style sources log) middle later next) where
-        body_put : Put at (body_text style sources log) middle later next
-        body_put =
-            let same = put-length p (omega arith) in
-            filled_done (omega arith) (omega (arith, p.next-is)) g
+module _ (text buffer : List ℕ) {needed : ℕ} {none none' : List ℕ} (f : Filled 0 text none none' needed) where
+  pub text_short : length buffer < needed → not_written (11 ∷ needed ∷ []) buffer ≡ text_reply text buffer
+  unfolding text_reply
+  text_short l =
+      let is : capped (length text) ≡ needed = omega (arith, f.counted) in
+      rw (lt-ltb (length buffer) (length text) (omega (arith, f.counted)), is)
 
-        pub tail_room : next + length (tail_text style sources) ≤ length later
-        tail_room = omega (arith, p.next-is, body_put.next-is, put-length p (omega arith), g.kept)
-
-        pub text_done :
-            {after : List ℕ} {bytes : ℕ} → Put next (tail_text style sources) later after bytes →
-            record { refusal = []; bytes = bytes; buffer = after } ≡ text_reply (text_in style sources (decode log)) buffer
-        unfolding text_reply
-        text_done {after} {bytes} r =
-            let long = text_length in
-            let same-long = put-length p (omega arith) in
-            let whole = put_then p (put_then body_put r (omega (arith, p.next-is))) (omega (arith, length-append (body_text style sources log) (tail_text style sources))) in
-            let count : bytes ≡ length (text_in style sources (decode log)) = omega (arith, p.next-is, body_put.next-is, r.next-is) in
-            let same : after ≡ written_over (text_in style sources (decode log)) buffer =
-            whole.written ∙ placed-start (head_text style iteration turns ++ (body_text style sources log ++ tail_text style sources)) buffer ∙ rw text_is in
-            rw (le-ltb (length buffer) (length (text_in style sources (decode log))) (omega arith), ← count, ← same)
+  pub text_done :
+      {after : List ℕ} {bytes : ℕ} → needed ≤ length buffer → length buffer < 2 ^ 64 - 1 → Filled 0 text buffer after bytes
+      → record { refusal = []; bytes = bytes; buffer = after } ≡ text_reply text buffer
+  unfolding text_reply
+  text_done {after} {bytes} l short g =
+      let fits : length text ≤ length buffer = omega (arith, f.counted) in
+      let count : bytes ≡ length text = omega (arith, g.counted) in
+      let same : after ≡ written_over text buffer = g.written (omega arith) (omega arith) ∙ placed-start text buffer in
+      rw (le-ltb (length buffer) (length text) fits, ← count, ← same)
 
 -- ---- the writer
 

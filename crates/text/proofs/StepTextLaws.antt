@@ -52,10 +52,6 @@ filled_put n fits p = record { counted = n; kept = put-length p fits; written = 
 pub filled-over : {at next : ℕ} {bytes before : List ℕ} → next ≡ capped (at + length bytes) → length before < next → Filled at bytes before before next
 filled-over n over = record { counted = n; kept = refl; written = λ small fits. absurd (omega arith) }
 
-pub filled_done : {at next : ℕ} {bytes before after : List ℕ} → length before < 2 ^ 64 → at + length bytes ≤ length before → Filled at bytes before after next → Put at bytes before after next
-filled_done short fits f =
-    record { written = f.written (omega arith) fits; next-is = f.counted ∙ omega arith }
-
 -- of a text that is due from a place on, all but the rest is passed
 pub record FilledSoFar (start : ℕ) (whole rest before after : List ℕ) (next : ℕ) : Type 0 where
   pub done : List ℕ

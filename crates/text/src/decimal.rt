@@ -1,7 +1,7 @@
 // Numbers and lines as bytes in a buffer.
 ghost use Rattle.std.specs.Prelude.{[], ◌∷◌, ◌≡◌, ◌+◌, ◌≤◌, length};
 ghost use Rattle.text.specs.Decimal.{decimal};
-ghost use Rattle.text.specs.Lines.{comma, print_line};
+ghost use Rattle.text.specs.Lines.{comma};
 ghost use Rattle.text.specs.WriteSteps.{Put};
 
 // The byte that ends a line.
@@ -51,46 +51,4 @@ pub fn put_field(buffer: &mut [u8], at: usize, n: u64) -> usize
 {
     let next = put_byte(buffer, at, b',');
     put_number(buffer, next, n)
-}
-
-// The bytes of a line of two fields.
-pub fn two_length(first: u64, second: u64) -> usize
-    ensures { (result ≡ length (print_line 0 (first ∷ second ∷ []))) × (result ≤ 44) }
-{
-    digit_count(first) + digit_count(second) + 4
-}
-
-pub fn three_length(first: u64, second: u64, third: u64) -> usize
-    ensures { (result ≡ length (print_line 0 (first ∷ second ∷ third ∷ []))) × (result ≤ 65) }
-{
-    digit_count(first) + digit_count(second) + digit_count(third) + 5
-}
-
-// Writes a line of two fields.
-pub fn put_two(buffer: &mut [u8], at: usize, letter: u8, first: u64, second: u64) -> usize
-    requires { at + length (print_line letter (first ∷ second ∷ [])) ≤ length buffer.old }
-    ensures { Put at (print_line letter (first ∷ second ∷ [])) buffer.old buffer.new result }
-{
-    let one = put_byte(buffer, at, letter);
-    let two = put_field(buffer, one, first);
-    let three = put_field(buffer, two, second);
-    put_byte(buffer, three, LF)
-}
-
-pub fn put_three(
-    buffer: &mut [u8],
-    at: usize,
-    letter: u8,
-    first: u64,
-    second: u64,
-    third: u64,
-) -> usize
-    requires { at + length (print_line letter (first ∷ second ∷ third ∷ [])) ≤ length buffer.old }
-    ensures { Put at (print_line letter (first ∷ second ∷ third ∷ [])) buffer.old buffer.new result }
-{
-    let one = put_byte(buffer, at, letter);
-    let two = put_field(buffer, one, first);
-    let three = put_field(buffer, two, second);
-    let four = put_field(buffer, three, third);
-    put_byte(buffer, four, LF)
 }

@@ -1,10 +1,10 @@
 // Nets of one source: the marks of those that may have records, and the J lines of the others.
-ghost use Rattle.std.specs.Prelude.{◌≡◌, ℕ, ◌+◌, ◌*◌, ◌≤◌, length};
+ghost use Rattle.std.specs.Prelude.{◌≡◌, ℕ, ◌≤◌, length};
 ghost use Rattle.job.specs.Tables.{nets_most};
 ghost use Rattle.text.specs.Routes.{net_writable, join_text, route_joins};
-ghost use Rattle.text.specs.WriteSteps.{Put, net_marked};
+ghost use Rattle.text.specs.WriteSteps.{Filled, net_marked};
 
-use crate::decimal;
+use crate::printing;
 use job::NETS_MOST;
 
 // Marks of the nets, 1 for each that is the first of its source.
@@ -21,32 +21,16 @@ pub fn first_marks(source: &[u16]) -> [u8; NETS_MOST]
     marks
 }
 
-// The bytes that the J lines take.
-pub fn joins_length(source: &[u16]) -> u64
-    requires { length source.now ≤ nets_most }
-    ensures { (result ≡ length (join_text (route_joins source.now))) × (result ≤ 44 * nets_most) }
+// The J lines, which are counted, and written if the buffer has room.
+pub fn fill_joins(source: &[u16], buffer: &mut [u8], start: u64) -> u64
+    ensures { Filled start (join_text (route_joins source.now)) buffer.old buffer.new result }
 {
-    let mut bytes = 0;
+    let mut next = start;
     for net in 0..source.len() {
         let first = job::first_of(source, net);
         if first != net {
-            bytes += decimal::two_length(net as u64, first as u64) as u64;
+            next = printing::fill_line(b'J', &[net as u64, first as u64], buffer, next);
         }
     }
-    bytes
-}
-
-// Writes the J lines.
-pub fn put_joins(source: &[u16], buffer: &mut [u8], start: usize) -> usize
-    requires { start + length (join_text (route_joins source.now)) ≤ length buffer.old }
-    ensures { Put start (join_text (route_joins source.now)) buffer.old buffer.new result }
-{
-    let mut at = start;
-    for net in 0..source.len() {
-        let first = job::first_of(source, net);
-        if first != net {
-            at = decimal::put_two(buffer, at, b'J', net as u64, first as u64);
-        }
-    }
-    at
+    next
 }

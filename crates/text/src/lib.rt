@@ -9,7 +9,7 @@ ghost use Rattle.text.specs.ReadReplies.{Tables, tables_of, lowest_short, short_
 ghost use Rattle.text.specs.ReadSteps.{lowest_of_nine, RoomForAll, CountsWithin, job_taken, LineRow};
 ghost use Rattle.text.specs.Routes.{text_reply, write_reply, write_reply_of};
 ghost use Rattle.text.specs.Dot.{text_in, dot_reply, style_reply};
-ghost use Rattle.text.specs.WriteSteps.{LogTested};
+ghost use Rattle.text.specs.WriteSteps.{Filled, LogTested, LatestPlaces};
 ghost use Rattle.negotiation.specs.Records.{decode};
 ghost use Rattle.job.specs.Tables.{nets_most};
 
@@ -91,6 +91,7 @@ mod users;
 
 pub use fields::byte_is;
 use job::{FIRST_SINKS_MOST, NETS_MOST, Terms};
+use latest::Latest;
 pub use log_check::{SoundLog, UnsoundLog};
 pub use printing::print_line;
 use reader::JobLines;
@@ -395,7 +396,25 @@ pub fn read_job(
     }
 }
 
-// Writes a text of a sound log: what it takes is counted first.
+// A text of a sound log: its parts one after the other, which are counted, and written if the buffer has room.
+fn fill_text(
+    style: Style,
+    source: &[u16],
+    log: &[u32],
+    latest: &Latest,
+    found: SoundLog,
+    buffer: &mut [u8],
+) -> u64
+    requires log_tested { (length source.now ≤ nets_most) × LogTested log.now found.iteration found.turns }
+    requires latest_places { LatestPlaces log.now latest.now.from latest.now.to }
+    ensures { Filled 0 (text_in style source.now (decode log.now)) buffer.old buffer.new result }
+{
+    let at = parts::fill_head(style, found, buffer);
+    let next = branches::fill_branches(style, log, source.len(), latest, buffer, at);
+    parts::fill_tail(style, source, buffer, next)
+}
+
+// Writes a text of a sound log, unless the buffer is shorter than it.
 fn write_text(
     style: Style,
     source: &[u16],
@@ -408,15 +427,11 @@ fn write_text(
         ≡ text_reply (text_in style source.now (decode log.now)) buffer.old }
 {
     let latest = latest::latest_records(log);
-    let head = parts::head_length(style, found.iteration as u64, found.turns as u64) as u64;
-    let body = branches::put_branches(style, log, source.len(), &latest, &mut [], 0);
-    let needed = (head + parts::tail_length(style, source)).saturating_add(body);
+    let needed = fill_text(style, source, log, &latest, found, &mut []);
     if (buffer.len() as u64) < needed {
         return Err(WriteRefusal::ShortBuffer(needed));
     }
-    let at = parts::put_head(style, buffer, found.iteration as u64, found.turns as u64);
-    let next = branches::put_branches(style, log, source.len(), &latest, buffer, at as u64);
-    Ok(parts::put_tail(style, source, buffer, next as usize))
+    Ok(fill_text(style, source, log, &latest, found, buffer) as usize)
 }
 
 // Writes either text of a log, after the writer's tests of table 5 and of the log.

@@ -1,72 +1,47 @@
-// What differs between the two texts of a log: a branch's line, and what stands before and after the branches.
-ghost use Rattle.std.specs.Prelude.{◌≡◌, ◌+◌, ◌*◌, ◌≤◌, length};
-ghost use Rattle.job.specs.Tables.{nets_most};
+// What differs between the two texts of a log: a branch's line, and what stands before and after the branches. Each is counted, and
+// written if the buffer has room.
 ghost use Rattle.text.specs.Routes.{branch_of};
 ghost use Rattle.text.specs.Dot.{style_line};
-ghost use Rattle.text.specs.WriteSteps.{Put, head_text, tail_text};
+ghost use Rattle.text.specs.WriteSteps.{Filled, head_text, tail_text};
 
-use crate::{Style, decimal, dot, joins};
+use crate::log_check::SoundLog;
+use crate::{Style, dot, joins, printing};
 
-// The bytes of a branch's line.
-pub fn branch_length(style: Style, net: u64, from: u64, to: u64) -> usize
-    ensures { result ≡ length (style_line style (branch_of net from to)) }
+// A branch's line.
+pub fn fill_branch(style: Style, net: u32, from: u32, to: u32, buffer: &mut [u8], at: u64) -> u64
+    ensures { Filled at (style_line style (branch_of net from to)) buffer.old buffer.new result }
 {
     match style {
-        Style::Lines => decimal::three_length(net, from, to),
-        Style::Picture => dot::dot_length(net, from, to),
+        Style::Lines => {
+            printing::fill_line(b'B', &[net as u64, from as u64, to as u64], buffer, at)
+        }
+        Style::Picture => dot::fill_dot(net, from, to, buffer, at),
     }
 }
 
-// Writes a branch's line.
-pub fn put_line(style: Style, buffer: &mut [u8], at: usize, net: u64, from: u64, to: u64) -> usize
-    requires { at + length (style_line style (branch_of net from to)) ≤ length buffer.old }
-    ensures { Put at (style_line style (branch_of net from to)) buffer.old buffer.new result }
+// What stands before the branches.
+pub fn fill_head(style: Style, found: SoundLog, buffer: &mut [u8]) -> u64
+    ensures { Filled 0 (head_text style found.iteration found.turns) buffer.old buffer.new result }
 {
     match style {
-        Style::Lines => decimal::put_three(buffer, at, b'B', net, from, to),
-        Style::Picture => dot::put_dot(buffer, at, net, from, to),
+        Style::Lines => {
+            printing::fill_line(
+                b'R',
+                &[found.iteration as u64, found.turns as u64],
+                buffer,
+                0,
+            )
+        }
+        Style::Picture => dot::fill_bytes(b"digraph r {\n", buffer, 0),
     }
 }
 
-// The bytes before the branches.
-pub fn head_length(style: Style, iteration: u64, turns: u64) -> usize
-    ensures { (result ≡ length (head_text style iteration turns)) × (result ≤ 44) }
+// And after them.
+pub fn fill_tail(style: Style, source: &[u16], buffer: &mut [u8], at: u64) -> u64
+    ensures { Filled at (tail_text style source.now) buffer.old buffer.new result }
 {
     match style {
-        Style::Lines => decimal::two_length(iteration, turns),
-        Style::Picture => 12,
-    }
-}
-
-// Writes them.
-pub fn put_head(style: Style, buffer: &mut [u8], iteration: u64, turns: u64) -> usize
-    requires { length (head_text style iteration turns) ≤ length buffer.old }
-    ensures { Put 0 (head_text style iteration turns) buffer.old buffer.new result }
-{
-    match style {
-        Style::Lines => decimal::put_two(buffer, 0, b'R', iteration, turns),
-        Style::Picture => dot::put_bytes(buffer, 0, b"digraph r {\n"),
-    }
-}
-
-// The bytes after the branches.
-pub fn tail_length(style: Style, source: &[u16]) -> u64
-    requires { length source.now ≤ nets_most }
-    ensures { (result ≡ length (tail_text style source.now)) × (result ≤ 44 * nets_most) }
-{
-    match style {
-        Style::Lines => joins::joins_length(source),
-        Style::Picture => 2,
-    }
-}
-
-// Writes them.
-pub fn put_tail(style: Style, source: &[u16], buffer: &mut [u8], at: usize) -> usize
-    requires { at + length (tail_text style source.now) ≤ length buffer.old }
-    ensures { Put at (tail_text style source.now) buffer.old buffer.new result }
-{
-    match style {
-        Style::Lines => joins::put_joins(source, buffer, at),
-        Style::Picture => dot::put_bytes(buffer, at, b"}\n"),
+        Style::Lines => joins::fill_joins(source, buffer, at),
+        Style::Picture => dot::fill_bytes(b"}\n", buffer, at),
     }
 }

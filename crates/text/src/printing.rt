@@ -2,7 +2,7 @@
 ghost use Rattle.std.specs.Prelude.{◌≡◌, ◌+◌, ◌≤◌, length};
 ghost use Rattle.text.specs.Lines.{print_fields, print_line};
 ghost use Rattle.text.specs.Routes.{capped};
-ghost use Rattle.text.specs.WriteSteps.{Put};
+ghost use Rattle.text.specs.WriteSteps.{Put, Filled};
 ghost use Rattle.text.specs.LineReplies.{place_reply_of, line_reply};
 
 use crate::decimal;
@@ -31,6 +31,26 @@ fn put_fields(fields: &[u64], buffer: &mut [u8], start: usize) -> usize
     decimal::put_byte(buffer, at, LF)
 }
 
+// Writes a line with this letter and these fields.
+fn put_line(letter: u8, fields: &[u64], buffer: &mut [u8], at: usize) -> usize
+    requires { at + length (print_line letter fields.now) ≤ length buffer.old }
+    ensures { Put at (print_line letter fields.now) buffer.old buffer.new result }
+{
+    let next = decimal::put_byte(buffer, at, letter);
+    put_fields(fields, buffer, next)
+}
+
+// Counts a line from a place on, and writes it if the buffer has room.
+pub fn fill_line(letter: u8, fields: &[u64], buffer: &mut [u8], at: u64) -> u64
+    ensures { Filled at (print_line letter fields.now) buffer.old buffer.new result }
+{
+    let next = at.saturating_add(line_length(fields));
+    if next <= buffer.len() as u64 {
+        put_line(letter, fields, buffer, at as usize);
+    }
+    next
+}
+
 // Prints a line with this letter and these fields from a place of the buffer on, and gives the place after it.
 // If the line does not fit there, nothing is written and the place stays.
 pub fn print_line(letter: u8, fields: &[u64], buffer: &mut [u8], at: usize) -> usize
@@ -39,6 +59,5 @@ pub fn print_line(letter: u8, fields: &[u64], buffer: &mut [u8], at: usize) -> u
     if buffer.len() < at || ((buffer.len() - at) as u64) < line_length(fields) {
         return at;
     }
-    let next = decimal::put_byte(buffer, at, letter);
-    put_fields(fields, buffer, next)
+    put_line(letter, fields, buffer, at)
 }

@@ -350,13 +350,6 @@ finding_none log froms tos e f t z =
       each = λ i l. places-none e.named log i (get_or froms i 0) (get_or tos i 0) (z i).0 (z i).1;
     }
 
--- the test of a net that has no record yet, and of one that has
-pub anew_none : {to : ℕ} (t : Bool) → to ≡ 0 → true ≡ either (eqb to 0) t
-anew_none {to} t e = rw (eq-eqb to 0 e)
-
-pub anew_other : {to : ℕ} (t : Bool) → (to ≡ 0 → ⊥) → t ≡ either (eqb to 0) t
-anew_other {to} t e = rw (ne_eqb to 0 e)
-
 -- the net has no record yet, or none of this iteration
 anew_why : (to x y : ℕ) → either (eqb to 0) (not (eqb x y)) ≡ true → (to ≡ 0) ⊎ (x ≡ y → ⊥)
 anew_why to x y e =

@@ -113,12 +113,6 @@ pub few-counted : {stamp : ℕ} {xs users stamps users_now stamps_now : List ℕ
 few-counted {stamp} {xs} {users} {stamps} {users_now} few s v =
     rw (s.stamps-set.at v) (few-more (has v xs) stamp (get_or stamps v 0) (get_or users v 0) (get_or users_now v 0) (few v) (s.users-at v))
 
--- a node without the stamp may count one more
-pub few_one : {stamp : ℕ} (users stamps : List ℕ) (v : ℕ) → FewUsers stamp users stamps → (get_or stamps v 0 ≡ stamp → ⊥) → get_or users v 0 ≤ nets_most
-few_one {stamp} users stamps v few z =
-    let f : get_or users v 0 ≤ nets_most + 0 = rw (ne_eqb (get_or stamps v 0) stamp z) at (few v) in
-    omega arith
-
 -- ---- the records of a net
 
 -- the nodes of a net's records from a place on

@@ -3,9 +3,7 @@
 use Prim.Native.Nat.{◌+◌, ◌≤◌}
 use native.Mathlib.Omega.{arith}
 use lib.ListN.{length}
-use Rattle.std.proofs.Common.{rules}
 use Rattle.text.specs.Lines.{print_line}
-use Rattle.text.proofs.PlacedLaws.{put-room, put_letter_then}
 use Rattle.text.proofs.LineReplyLaws.{line_size, line-short, line-written}
 use Rattle.text.proofs.printing.print_line.Goals.{Else-buffer-at-2, then-buffer-at-via-then-buffer-at, then-buffer-at-via-else-buffer-at+then-buffer-at-2}
 use Rattle.text.proofs.printing.print_line.Goals as goal
@@ -27,20 +25,8 @@ returns-then-buffer-at c =
       | then-buffer-at-via-else-buffer-at+then-buffer-at-2 w ↦ record { answers = line-short _ _ _ _ (omega (arith, w.if-buffer-at.false, w.line_length.ensures, w.if-buffer-at-2.true)) }
     ]
 
-pub put_byte-next-requires : goal.put_byte-next-requires
-put_byte-next-requires c =
-    let a = c.args in
-    let size = line_size a.letter a.fields.now in
-    let room = fits (goal.at.put_byte-next-requires c).Else-buffer-at-2 in
-    search rules
-
-pub put_fields-requires : goal.put_fields-requires
-put_fields-requires c =
-    let a = c.args in
-    let size = line_size a.letter a.fields.now in
-    put-room c.put_byte-next.ensures _ (omega (arith, fits (goal.at.put_fields-requires c).Else-buffer-at-2))
+pub put_line-requires : goal.put_line-requires
+put_line-requires c = fits (goal.at.put_line-requires c).Else-buffer-at-2
 
 pub returns : goal.returns
-returns c =
-    let room = fits (goal.at.returns c).Else-buffer-at-2 in
-    record { answers = line-written _ _ _ _ room (put_letter_then _ c.put_byte-next.ensures room (λ room. c.put_fields.ensures)) }
+returns c = record { answers = line-written _ _ _ _ (fits (goal.at.returns c).Else-buffer-at-2) c.put_line.ensures }
