@@ -8,10 +8,8 @@ ghost use Rattle.negotiation.specs.Flood.{FloodReady, FloodRoom, RowFlooded, Flo
 fn clear_marks(reached: &mut [u8])
     ensures { reached.new ≡ replicate (length reached.old) 0 }
 {
-    let mut v = 0;
-    while v < reached.len() {
+    for v in 0..reached.len() {
         reached[v] = 0;
-        v += 1;
     }
 }
 
@@ -32,10 +30,10 @@ fn flood_row(
         let to = row_start graph (u + 1) in
         RowFlooded graph u to end result reached.old reached.new work.old work.new }
 {
+    let from = first_edge[u] as usize;
     let to = first_edge[u + 1] as usize;
-    let mut e = first_edge[u] as usize;
     let mut last = end;
-    while e < to {
+    for e in from..to {
         let v = edge_target[e] as usize;
         if last < kind.len() {
             work[last] = v as u64;
@@ -43,7 +41,6 @@ fn flood_row(
         let new = if reached[v] == 0 { 1 } else { 0 };
         reached[v] = 1;
         last += new;
-        e += 1;
     }
     last
 }
@@ -54,15 +51,13 @@ pub fn missing_sink(reached: &[u8], sinks: &[u16], from: usize) -> usize
     requires from_in_bounds { from ≤ length sinks.now }
     ensures { FirstUnmarked reached.now sinks.now from result }
 {
-    let mut place = from;
-    while place < sinks.len() {
+    for place in from..sinks.len() {
         let s = sinks[place] as usize;
         if reached[s] == 0 {
             return place;
         }
-        place += 1;
     }
-    place
+    sinks.len()
 }
 
 // Marks nodes that have a path from the source, and no other, until every sink is marked or there is no other such node. The work slice

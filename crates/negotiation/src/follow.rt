@@ -34,13 +34,12 @@ fn has_edge(kind: &[u8], first_edge: &[u32], edge_target: &[u16], u: usize, v: u
     ensures { let graph = graph_of kind.now first_edge.now edge_target.now in
         result ≡ has_edge graph u v }
 {
+    let from = first_edge[u] as usize;
     let to = first_edge[u + 1] as usize;
-    let mut e = first_edge[u] as usize;
-    while e < to {
+    for e in from..to {
         if edge_target[e] as usize == v {
             return true;
         }
-        e += 1;
     }
     false
 }
@@ -150,8 +149,7 @@ fn path_cost(
         return PathCost::Strays;
     }
     let mut cost: u64 = 0;
-    let mut k = from + 1;
-    while k < to {
+    for k in from + 1..to {
         let v = log[k] as usize;
         let last = last_mark(k + 1, to);
         if !step_passes(kind, first_edge, edge_target, goals, in_tree, u, v, last) {
@@ -160,7 +158,6 @@ fn path_cost(
         cost += node_price(kind, capacity, history, users, weighting, delay, factor, v);
         in_tree[v] = 1;
         u = v;
-        k += 1;
     }
     PathCost::Cost(cost)
 }

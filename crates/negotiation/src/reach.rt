@@ -30,8 +30,7 @@ pub fn unreachable(
 {
     let n = kind.len();
     let mut reached = [0u8; NODES_MOST];
-    let mut net = 0;
-    while net < source.len() {
+    for net in 0..source.len() {
         let from = first_sink[net] as usize;
         let to = first_sink[net + 1] as usize;
         let s = source[net] as usize;
@@ -51,7 +50,6 @@ pub fn unreachable(
                 place: place as u32,
             };
         }
-        net += 1;
     }
     Reach::All
 }

@@ -121,10 +121,8 @@ fn set_goals(sinks: &[u16], goals: &mut [u8])
     requires { AllBelow (length goals.old) sinks.now }
     ensures { Stored 1 sinks.now goals.old goals.new }
 {
-    let mut k = 0;
-    while k < sinks.len() {
+    for k in 0..sinks.len() {
         goals[sinks[k] as usize] = 1;
-        k += 1;
     }
 }
 
@@ -330,8 +328,7 @@ fn follow_nets(
         tree_to.new }
 {
     let mut tariff = begun;
-    let mut net = 0;
-    while net < source.len() {
+    for net in 0..source.len() {
         let from = first_sink[net] as usize;
         let to = first_sink[net + 1] as usize;
         let first = tariff.words;
@@ -367,7 +364,6 @@ fn follow_nets(
         nets::end_net(
             log, net, first, until, due, users, in_tree, tree_from, tree_to,
         );
-        net += 1;
     }
     Taken::On(tariff)
 }

@@ -70,10 +70,8 @@ pub fn clear(work: &mut [u64], to: usize)
     requires { to ≤ length work.old }
     ensures { work.new ≡ replicate to 0 ++ drop to work.old }
 {
-    let mut k = 0;
-    while k < to {
+    for k in 0..to {
         work[k] = 0;
-        k += 1;
     }
 }
 
@@ -341,15 +339,14 @@ fn go_on(
         due::mark_due(
             terms, tariff, capacity, first_sink, log, tree_from, tree_to, users, due,
         );
-        let mut net = 0;
-        while net < source.len() {
+        for net in 0..source.len() {
             let from = first_sink[net] as usize;
             let to = first_sink[net + 1] as usize;
             let first = tariff.words;
-            let mut left = nets::begin_net(
+            let most = nets::begin_net(
                 log, source, first_sink, net, due, tree_from, tree_to, users, in_tree,
             );
-            while 0 < left {
+            for _ in 0..most {
                 match net_turn(
                     kind,
                     capacity,
@@ -379,13 +376,11 @@ fn go_on(
                         tariff = t;
                     }
                 }
-                left -= 1;
             }
             let until = tariff.words;
             nets::end_net(
                 log, net, first, until, due, users, in_tree, tree_from, tree_to,
             );
-            net += 1;
         }
         let over = congestion::over_count(capacity, users);
         let settled = over == 0;
