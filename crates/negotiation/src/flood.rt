@@ -1,17 +1,8 @@
 // Which sinks have a path from a source: a flood over the edges, each node once, until every sink is reached.
-ghost use Rattle.std.specs.Prelude.{◌≡◌, ◌+◌, ◌≤◌, length, replicate};
+ghost use Rattle.std.specs.Prelude.{◌≡◌, ◌+◌, ◌≤◌, length};
 ghost use Rattle.search.specs.Block.{graph_of, row_start};
 ghost use Rattle.job.specs.Steps.{AllBelow};
 ghost use Rattle.negotiation.specs.Flood.{FloodReady, FloodRoom, RowFlooded, Flooded, FirstUnmarked};
-
-// Takes every mark away.
-fn clear_marks(reached: &mut [u8])
-    ensures { reached.new ≡ replicate (length reached.old) 0 }
-{
-    for v in 0..reached.len() {
-        reached[v] = 0;
-    }
-}
 
 // Marks the targets of node u that are not marked yet. Each waits in the queue, which is the work slice up to `end`; the answer is its new
 // end. Every target is written behind the queue, which then grows by 1 or 0: whether a target is new no processor foresees, and a sum needs
@@ -76,7 +67,7 @@ pub fn flood(
     ensures { let graph = graph_of kind.now first_edge.now edge_target.now in
         Flooded graph source sinks.now reached.new work.old work.new }
 {
-    clear_marks(reached);
+    reached.fill(0);
     reached[source] = 1;
     work[0] = source as u64;
     let mut missing = 0;

@@ -121,8 +121,8 @@ fn set_goals(sinks: &[u16], goals: &mut [u8])
     requires { AllBelow (length goals.old) sinks.now }
     ensures { Stored 1 sinks.now goals.old goals.new }
 {
-    for k in 0..sinks.len() {
-        goals[sinks[k] as usize] = 1;
+    for &s in sinks {
+        goals[s as usize] = 1;
     }
 }
 

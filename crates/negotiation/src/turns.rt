@@ -70,9 +70,7 @@ pub fn clear(work: &mut [u64], to: usize)
     requires { to ≤ length work.old }
     ensures { work.new ≡ replicate to 0 ++ drop to work.old }
 {
-    for k in 0..to {
-        work[k] = 0;
-    }
+    work[..to].fill(0);
 }
 
 // The cheapest path of a turn, by the search that is chosen, and how many nodes it expanded: none are counted with the plain one.

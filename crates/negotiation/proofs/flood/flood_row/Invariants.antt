@@ -1,4 +1,4 @@
--- `negotiation::flood::flood_row` meets its contract. The invariant: the row is flooded up to place e. The measure is what is left of the row.
+-- `negotiation::flood::flood_row` meets its contract. The invariant: the row is flooded up to place e.
 -- Assumes nothing.
 use Prim.Native.Nat.{◌-◌, ◌≤◌}
 use Rattle.search.specs.Block.{graph_of, row_start}
