@@ -55,8 +55,8 @@ pub fn next_tried(
                 timed: false,
                 criticality: 0,
             },
-            from: from,
-            to: to,
+            from,
+            to,
         };
     }
     let place = place_due(&sink[from..to], &criticality[from..to], in_tree);
@@ -67,7 +67,7 @@ pub fn next_tried(
                 criticality: 0,
             },
             from: to,
-            to: to,
+            to,
         };
     }
     let at = from + place;

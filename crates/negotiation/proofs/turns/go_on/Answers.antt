@@ -25,7 +25,7 @@ use Rattle.negotiation.proofs.KeepTurn.{Lent, lent_tables, call_tried, call_turn
 use Rattle.negotiation.proofs.turns.KeepNet.{keep_end-ready, keep_ended}
 use Rattle.negotiation.proofs.turns.KeepEnd.{Answers, after_full, all-routed, history_long, keep_accepted, keep_limit, keep_growable, keep_below, keep_next}
 use Rattle.negotiation.proofs.turns.KeepCount.{Counts, CountsOn, counts_start, counts_same, counts-answer, counts_fit, counts_nothing, counts_full, counts-logged}
-use Rattle.negotiation.proofs.turns.go_on.Goals.{At-loop, At-loop-net, in-Logged, in-Nothing}
+use Rattle.negotiation.proofs.turns.go_on.Goals.{At-loop, At-loop-net, in-Ok-Some, in-Ok-None}
 use Rattle.negotiation.proofs.turns.go_on.Goals as goal
 
 -- the nodes over capacity, as the code counts them
@@ -217,16 +217,16 @@ loop-preserved c =
     λ p W L m e o.
     let inv = c.loop.invariant p W L m e o in
     elim c.match-net_turn.branch [
-      | in-Nothing w ↦ (
-        rw one_less (after_nothing _ sound e inv.0 left (tables at) _ _ _ done.same_from _ done.answers w.in-Nothing.is _ w.tariff-is),
+      | in-Ok-None w ↦ (
+        rw one_less (after_nothing _ sound e inv.0 left (tables at) _ _ _ done.same_from _ done.answers w.in-Ok-None.is _ w.tariff-is),
         λ k aimed ran h.
-            counts_nothing _ sound reachable e inv.0 left (tables at) _ _ _ done.same_from _ done.answers w.in-Nothing.is _ w.tariff-is k aimed
+            counts_nothing _ sound reachable e inv.0 left (tables at) _ _ _ done.same_from _ done.answers w.in-Ok-None.is _ w.tariff-is k aimed
             ran (inv.1 k aimed ran h),
       )
-      | in-Logged w ↦ (
-        rw one_less (after-logged _ sound e inv.0 left (tables at) _ _ _ done.same_from _ done.answers _ w.in-Logged.is _ w.tariff-is),
+      | in-Ok-Some w ↦ (
+        rw one_less (after-logged _ sound e inv.0 left (tables at) _ _ _ done.same_from _ done.answers _ w.in-Ok-Some.is _ w.tariff-is),
         λ k aimed ran h.
-            counts-logged _ sound reachable e inv.0 left (tables at) _ _ _ done.same_from _ done.answers _ w.in-Logged.is _ w.tariff-is k aimed
+            counts-logged _ sound reachable e inv.0 left (tables at) _ _ _ done.same_from _ done.answers _ w.in-Ok-Some.is _ w.tariff-is k aimed
             ran (inv.1 k aimed ran h),
       )
     ]
@@ -331,7 +331,7 @@ returns c =
     let sound = c.requires.ready.0.0 in
     let enough = c.requires.ready.0.2 in
     let left : 0 < c.begin_net-most.result - c.loop.counter = omega (arith, c.loop-test.true) in
-    let none = c.in-Full.is in
+    let none = c.in-Err.is in
     let done = c.net_turn.ensures in
     let result = c.answer-2.result in
     let answer = c.answer-2.ensures in
