@@ -4,14 +4,6 @@
 use Rattle.std.specs.Prelude.{Bool, List, ◌≡◌, ℕ, ◌<◌, eqb, ltb, length, get_or}
 use Rattle.price.specs.Test.{choose, both}
 use Rattle.price.specs.Lists.{every, has, distinct}
-use Rattle.job.specs.Tables.{source_kind, sink_kind}
-use Rattle.job.specs.declared.pins.Pin.{Pin}
-use Rattle.job.specs.declared.pins.Pin.TheVariants.{Source, Sink}
-
--- the test of a pin's kind
-abbrev pub pin_kind : Pin → ℕ → Bool
-pin_kind Source = source_kind
-pin_kind Sink = sink_kind
 
 -- every entry is below n
 abbrev pub AllBelow : ℕ → List ℕ → Type 0

@@ -6,7 +6,7 @@ ghost use Rattle.job.specs.Join.{first_of};
 fn source_of(source: &[u16], net: usize) -> u16
     ensures { result ≡ get_or source.now net 0 }
 {
-    if net < source.len() { source[net] } else { 0 }
+    source.get(net).copied().unwrap_or(0)
 }
 
 // The first net of a net's source.
@@ -14,12 +14,10 @@ pub fn first_of(source: &[u16], net: usize) -> usize
     ensures { result ≡ first_of source.now net }
 {
     let node = source_of(source, net);
-    let mut i = 0;
-    while i < source.len() {
-        if source[i] == node {
+    for (i, from) in source.iter().enumerate() {
+        if *from == node {
             return i;
         }
-        i += 1;
     }
-    i
+    source.len()
 }

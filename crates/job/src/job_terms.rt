@@ -20,7 +20,7 @@ pub fn plain_terms(limit: u32) -> Terms
     ensures { result ≡ plain_terms limit }
 {
     Terms {
-        limit: limit,
+        limit,
         tuning: price::plain_tuning(),
         rule: 1,
         until: 1,
@@ -32,43 +32,22 @@ pub fn plain_terms(limit: u32) -> Terms
 pub fn rule_sound(rule: u32, until: u32) -> bool
     ensures { result ≡ rule_sound rule until }
 {
-    if until < 1 {
-        return false;
-    }
-    if UNTIL_MOST < until {
-        return false;
-    }
-    if rule == 1 {
-        return true;
-    }
-    rule == 2
+    1 <= until && until <= UNTIL_MOST && (rule == 1 || rule == 2)
 }
 
 // The limit, each number of the tuning and the rule keep their bounds.
 pub fn terms_sound(terms: Terms) -> bool
     ensures { result ≡ terms_sound terms }
 {
-    if terms.limit < 1 {
-        return false;
-    }
-    if LIMIT_MOST < terms.limit {
-        return false;
-    }
-    if !tuning_sound(terms.tuning) {
-        return false;
-    }
-    rule_sound(terms.rule, terms.until)
+    1 <= terms.limit
+        && terms.limit <= LIMIT_MOST
+        && tuning_sound(terms.tuning)
+        && rule_sound(terms.rule, terms.until)
 }
 
 // A timed job has more nodes, or a larger limit, than it may.
 pub fn exceeds(nodes: usize, terms: Terms) -> bool
     ensures { result ≡ exceeds_bounds nodes terms }
 {
-    if !terms.timed {
-        return false;
-    }
-    if TIMED_NODES_MOST < nodes {
-        return true;
-    }
-    TIMED_LIMIT_MOST < terms.limit
+    terms.timed && (TIMED_NODES_MOST < nodes || TIMED_LIMIT_MOST < terms.limit)
 }

@@ -70,6 +70,7 @@ mod nets;
 mod order;
 mod reach;
 mod records;
+mod refusals;
 mod take_up;
 mod tariff;
 mod trees;
@@ -77,6 +78,7 @@ mod turns;
 
 use job::{FIRST_SINKS_MOST, Terms};
 use reach::Missing;
+pub use refusals::refusal;
 use search::SINKS_MOST;
 
 // The answer of a call that is refused before any turn.

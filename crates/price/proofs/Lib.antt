@@ -7,9 +7,9 @@
 --
 -- Prices
 --     PriceLaws     bounds of base cost, price, path cost, factor and history; the factor's steps
---     ReplyLaws     which number is refused first, and the price where none is; what an answer with that reply is
---     TimedLaws     a timed price and one that is weighed or not: bounds, and which number is refused first
---     TuningLaws    a tuning's bounds, number by number
+--     ReplyLaws     the price where all five keep their bounds; what an answer with that reply is
+--     TimedLaws     a timed price and one that is weighed or not: bounds, and what is answered past the five
+--     TuningLaws    a tuning is sound exactly where each number keeps its bounds
 --
 -- Lists and tests, for every crate
 --     TestLaws      tests that pass together; both, either, choose; of two numbers one is at most the other

@@ -2,7 +2,7 @@
 -- of one answers.
 --     timed-                        the price of a timed job
 --     weighed-                      timed or not, under the bounds of `WeighedInBounds`
---     -refused, -delay, -criticality, -priced    the answer, case by case
+--     -bounds, -same, -kept, -priced    the answer: what the five say, and what delay and criticality say past them
 -- Assumes nothing.
 use mathlib.Core.Bool.{Bool, true, false}
 use mathlib.Core.Path.{◌≡◌, refl, sym, ◌∙◌, ap}
@@ -10,19 +10,17 @@ use Prim.Native.Nat.{ℕ, ◌+◌, ◌-◌, ◌*◌, ◌≤◌, ◌<◌}
 use native.Mathlib.Nat.{mul-le-mul, mul-pos, le_refl}
 use native.Mathlib.Omega.{arith}
 use lib.Dec.{leb}
-use borrow.Author.Tests.{leb-true, le-leb, lt-leb}
+use borrow.Author.Tests.{leb-true, le-leb}
 use Rattle.price.specs.Test.{choose, both}
 use Rattle.price.specs.Bounds.{kind_most, factor_most, others_most, capacity_most, history_most, base_most, history_gain, nodes_most, price_most, path_most}
 use Rattle.price.specs.Bounds.{delay_most, criticality_most, timed_nodes_most, timed_limit_most, timed_history_most, timed_price_most}
 use Rattle.price.specs.Prices.{overuse, price_of}
-use Rattle.price.specs.Replies.{PriceReply, InBounds, priced, refused, price_reply_of, five_kept, price_reply}
+use Rattle.price.specs.Replies.{PriceReply, InBounds, priced, refused, kept, price_reply}
 use Rattle.price.specs.Timed.{timed_price, timed_reply, weighed, weighed_reply, history_bound, weighed_most, WeighedInBounds}
 use Rattle.price.specs.declared.Weighting.{Weighting}
-use Rattle.price.specs.declared.PriceAnswer.{PriceAnswer}
-use Rattle.price.specs.declared.PriceAnswer.TheVariants.{Price, Refused}
 use Rattle.price.proofs.TestLaws.{by_test, both_left, both_right}
 use Rattle.price.proofs.PriceLaws.{base_most_lem, congestion_most, price-pos, price_most_lem, path_most_lem}
-use Rattle.price.proofs.ReplyLaws.{reply_priced, not_priced}
+use Rattle.price.proofs.ReplyLaws.{five_within, reply_priced, not_priced}
 
 -- ---- the price of a timed job
 
@@ -167,7 +165,7 @@ five-priced true true true true false p n q = not_priced n 4 q
 five-priced true true true true true p n q = (refl, refl, refl, refl, refl, ap (λ (x : PriceReply). x.price) q)
 
 module _ (k f o c h : ℕ) where
-  priced-bounds : {n : ℕ} → priced n ≡ price_reply k f o c h → InBounds k f o c h × (n ≡ price_of k f o c h)
+  pub priced-bounds : {n : ℕ} → priced n ≡ price_reply k f o c h → InBounds k f o c h × (n ≡ price_of k f o c h)
   unfolding price_reply
   priced-bounds {n} q =
       let t =
@@ -184,47 +182,22 @@ module _ (k f o c h : ℕ) where
         t.5,
       )
 
-  pub answer-bounds : {r : PriceAnswer} {n : ℕ} → r ≡ Price n → price_reply_of r ≡ price_reply k f o c h → InBounds k f o c h × (n ≡ price_of k f o c h)
-  answer-bounds q e = priced-bounds (sym (ap price_reply_of q) ∙ e)
-
   module _ (d cr : ℕ) where
-    refused-same : {place : ℕ} → refused place ≡ price_reply k f o c h → refused place ≡ timed_reply k f o c h d cr
+    pub refused-same : {place : ℕ} → refused place ≡ price_reply k f o c h → refused place ≡ timed_reply k f o c h d cr
     unfolding price_reply timed_reply
     refused-same {place} q =
         five-refused (leb k kind_most) (leb f factor_most) (leb o others_most) (both (leb 1 c) (leb c capacity_most)) (both (leb 1 h) (leb h history_most)) (price_of k f o c h) place _ q
 
-    pub timed_refused : {r : PriceAnswer} {place : ℕ} → r ≡ Refused place → price_reply_of r ≡ price_reply k f o c h → price_reply_of r ≡ timed_reply k f o c h d cr
-    timed_refused q e = ap price_reply_of q ∙ refused-same (sym (ap price_reply_of q) ∙ e)
+    -- past the five, delay and criticality decide
+    pub timed_kept :
+        InBounds k f o c h
+        → timed_reply k f o c h d cr
+        ≡ kept (leb d delay_most) 5 (kept (leb cr criticality_most) 6 (priced (timed_price cr d (price_of k f o c h))))
+    unfolding timed_reply
+    timed_kept b = five_within b _
 
-    -- past the five
-    five_kept_lem : InBounds k f o c h → (rest : PriceReply) → five_kept k f o c h rest ≡ rest
-    five_kept_lem b rest =
-        rw (
-          le-leb k kind_most b.kind_most_lem,
-          le-leb f factor_most b.factor_most_lem,
-          le-leb o others_most b.others_most_lem,
-          le-leb 1 c b.capacity_least,
-          le-leb c capacity_most b.capacity_most_lem,
-          le-leb 1 h b.history_least,
-          le-leb h history_most b.history_most_lem,
-        )
-
-    module _ (b : InBounds k f o c h) where
-      pub timed_delay : delay_most < d → timed_reply k f o c h d cr ≡ refused 5
-      unfolding timed_reply
-      timed_delay l = five_kept_lem b _ ∙ rw (lt-leb d delay_most l)
-
-      pub timed_criticality : d ≤ delay_most → criticality_most < cr → timed_reply k f o c h d cr ≡ refused 6
-      unfolding timed_reply
-      timed_criticality hd l = five_kept_lem b _ ∙ rw (le-leb d delay_most hd, lt-leb cr criticality_most l)
-
-      pub timed_priced : d ≤ delay_most → cr ≤ criticality_most → timed_reply k f o c h d cr ≡ priced (timed_price cr d (price_of k f o c h))
-      unfolding timed_reply
-      timed_priced hd hc = five_kept_lem b _ ∙ rw (le-leb d delay_most hd, le-leb cr criticality_most hc)
-
-      -- the congestion price that was answered, weighed
-      pub timed_weighed : {r p : ℕ} → p ≡ price_of k f o c h → r ≡ timed_price cr d p → d ≤ delay_most → cr ≤ criticality_most → priced r ≡ timed_reply k f o c h d cr
-      timed_weighed is e hd hc = ap priced (e ∙ ap (timed_price cr d) is) ∙ sym (timed_priced hd hc)
+    pub timed_priced : InBounds k f o c h → d ≤ delay_most → cr ≤ criticality_most → timed_reply k f o c h d cr ≡ priced (timed_price cr d (price_of k f o c h))
+    timed_priced b hd hc = timed_kept b ∙ rw (le-leb d delay_most hd, le-leb cr criticality_most hc)
 
 module _ (w : Weighting) (k f o c h d : ℕ) where
   pub reply_timed : {x : PriceReply} → w.timed ≡ true → x ≡ timed_reply k f o c h d w.criticality → x ≡ weighed_reply w k f o c h d
@@ -248,4 +221,4 @@ module _ (w : Weighting) (k f o c h d : ℕ) where
       sym (reply_timed t (sym (timed_priced k f o c h d w.criticality b.five (b.delay_most_lem t) (b.criticality_most_lem t))))
       ∙ ap priced (sym (weighed_timed w d (price_of k f o c h) t)))
       (λ t.
-      sym (reply_untimed t (sym (reply_priced k f o c h b.five))) ∙ ap priced (sym (weighed-untimed w d (price_of k f o c h) t)))
+      sym (reply_untimed t (sym (reply_priced b.five))) ∙ ap priced (sym (weighed-untimed w d (price_of k f o c h) t)))

@@ -1,10 +1,10 @@
--- Laws of a tuning's bounds: which number breaks them, and all of them where none does.
+-- Laws of a tuning's bounds: it is sound exactly where each number keeps its own.
 -- Assumes nothing.
-use mathlib.Core.Bool.{true, false}
+use mathlib.Core.Bool.{true}
 use mathlib.Core.Path.{◌≡◌}
-use Prim.Native.Nat.{◌≤◌, ◌<◌}
+use Prim.Native.Nat.{◌≤◌}
 use lib.Dec.{leb}
-use borrow.Author.Tests.{le-leb, lt-leb, leb-true}
+use borrow.Author.Tests.{le-leb, leb-true}
 use Rattle.price.specs.Test.{both}
 use Rattle.price.specs.Bounds.{first_most, down_most, up_most, step_most}
 use Rattle.price.specs.Tuning.{tuning_sound}
@@ -21,63 +21,6 @@ pub record TuningWithin (g : Tuning) : Type 0 where
   pub few_step : g.step ≤ step_most
 
 module _ (g : Tuning) where
-  pub tuning_first_high : first_most < g.first → tuning_sound g ≡ false
-  unfolding tuning_sound
-  tuning_first_high a = rw (lt-leb g.first first_most a)
-
-  module _ (f : g.first ≤ first_most) where
-    pub tuning_down_low : g.down < 1 → tuning_sound g ≡ false
-    unfolding tuning_sound
-    tuning_down_low a = rw (le-leb g.first first_most f, lt-leb 1 g.down a)
-
-    module _ (d : 1 ≤ g.down) where
-      pub tuning_down_high : down_most < g.down → tuning_sound g ≡ false
-      unfolding tuning_sound
-      tuning_down_high a = rw (le-leb g.first first_most f, le-leb 1 g.down d, lt-leb g.down down_most a)
-
-      module _ (d' : g.down ≤ down_most) where
-        pub tuning_up_low : g.up < g.down → tuning_sound g ≡ false
-        unfolding tuning_sound
-        tuning_up_low a =
-            rw (le-leb g.first first_most f, le-leb 1 g.down d, le-leb g.down down_most d', lt-leb g.down g.up a)
-
-        module _ (u : g.down ≤ g.up) where
-          pub tuning_up_high : up_most < g.up → tuning_sound g ≡ false
-          unfolding tuning_sound
-          tuning_up_high a =
-              rw (
-                le-leb g.first first_most f,
-                le-leb 1 g.down d,
-                le-leb g.down down_most d',
-                le-leb g.down g.up u,
-                lt-leb g.up up_most a,
-              )
-
-          module _ (u' : g.up ≤ up_most) where
-            pub tuning_step_low : g.step < 1 → tuning_sound g ≡ false
-            unfolding tuning_sound
-            tuning_step_low a =
-                rw (
-                  le-leb g.first first_most f,
-                  le-leb 1 g.down d,
-                  le-leb g.down down_most d',
-                  le-leb g.down g.up u,
-                  le-leb g.up up_most u',
-                  lt-leb 1 g.step a,
-                )
-
-            pub tuning_step : 1 ≤ g.step → tuning_sound g ≡ leb g.step step_most
-            unfolding tuning_sound
-            tuning_step a =
-                rw (
-                  le-leb g.first first_most f,
-                  le-leb 1 g.down d,
-                  le-leb g.down down_most d',
-                  le-leb g.down g.up u,
-                  le-leb g.up up_most u',
-                  le-leb 1 g.step a,
-                )
-
   pub tuning_within_lem : tuning_sound g ≡ true → TuningWithin g
   unfolding tuning_sound
   tuning_within_lem e =

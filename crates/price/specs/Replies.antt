@@ -1,11 +1,10 @@
 -- What a call of the price answers, as the numbers of document 01's table "Numbers for a stopped call".
 -- Assumes nothing.
-use Rattle.std.specs.Prelude.{Bool, List, [], ◌∷◌, ℕ, ◌≤◌, leb}
+use Rattle.std.specs.Prelude.{Bool, List, [], ◌∷◌, ℕ, ◌≤◌, leb, Result, Ok, Err}
 use Rattle.price.specs.Test.{choose, both}
 use Rattle.price.specs.Bounds.{kind_most, factor_most, others_most, capacity_most, history_most}
 use Rattle.price.specs.Prices.{price_of}
-use Rattle.price.specs.declared.PriceAnswer.{PriceAnswer}
-use Rattle.price.specs.declared.PriceAnswer.TheVariants.{Price, Refused}
+use Rattle.price.specs.declared.BadNumber.{BadNumber}
 
 -- the numbers of the refusal, none if there is no refusal; and the price, 0 after a refusal
 pub record PriceReply : Type 0 where
@@ -20,9 +19,9 @@ abbrev pub refused : ℕ → PriceReply
 refused place = record { refusal = 13 ∷ place ∷ []; price = 0 }
 
 -- 01's numbers for each case of the answer
-abbrev pub price_reply_of : PriceAnswer → PriceReply
-price_reply_of (Price p) = priced p
-price_reply_of (Refused place) = refused place
+abbrev pub price_reply_of : Result ℕ BadNumber → PriceReply
+price_reply_of (Ok p) = priced p
+price_reply_of (Err bad) = refused bad.place
 
 -- row 13: the bounds of kind, factor, others, capacity and history
 pub record InBounds (kind factor others capacity history : ℕ) : Type 0 where

@@ -40,15 +40,25 @@ const UP_MOST: u32 = 8;
 
 const STEP_MOST: u32 = 2;
 
-// What a call of the price answers: the price, or refusal 13 with the place from 0 of the first number beyond its bounds.
-#[derive(Clone, Copy)]
-pub enum PriceAnswer {
-    Price(u64),
-    Refused(u32),
+// Refusal 13: the number at this place, from 0, is the first one beyond its bounds.
+#[derive(Clone, Copy, Debug, PartialEq, Eq)]
+pub struct BadNumber {
+    pub place: u32,
+}
+
+// The five numbers that price a node, in the order of their places: what it is, what the iteration asks, how many other nets have it, how
+// many nets it can carry, and its historical congestion.
+#[derive(Clone, Copy, Debug, PartialEq, Eq)]
+pub struct Numbers {
+    pub kind: u32,
+    pub factor: u32,
+    pub others: u32,
+    pub capacity: u32,
+    pub history: u32,
 }
 
 // How the tariff is tuned: the factor in iteration 2, then factor × up / down, and by how much history grows for each net too many.
-#[derive(Clone, Copy)]
+#[derive(Clone, Copy, Debug, PartialEq, Eq)]
 pub struct Tuning {
     pub first: u32,
     pub up: u32,
@@ -57,7 +67,7 @@ pub struct Tuning {
 }
 
 // How a turn weighs delay: not at all, or for a sink of this criticality.
-#[derive(Clone, Copy)]
+#[derive(Clone, Copy, Debug, PartialEq, Eq)]
 pub struct Weighting {
     pub timed: bool,
     pub criticality: u32,
@@ -76,28 +86,17 @@ pub fn plain_tuning() -> Tuning
 }
 
 // Each number of a tuning keeps its bounds.
+#[tactic(auto, unfolding(crate::specs::Tuning::tuning_sound))]
 pub fn tuning_sound(g: Tuning) -> bool
     ensures { result ≡ tuning_sound g }
 {
-    if FIRST_MOST < g.first {
-        return false;
-    }
-    if g.down < 1 {
-        return false;
-    }
-    if DOWN_MOST < g.down {
-        return false;
-    }
-    if g.up < g.down {
-        return false;
-    }
-    if UP_MOST < g.up {
-        return false;
-    }
-    if g.step < 1 {
-        return false;
-    }
-    g.step <= STEP_MOST
+    g.first <= FIRST_MOST
+        && 1 <= g.down
+        && g.down <= DOWN_MOST
+        && g.down <= g.up
+        && g.up <= UP_MOST
+        && 1 <= g.step
+        && g.step <= STEP_MOST
 }
 
 // The first running product, b_v in document 003: the base cost of a node of this kind. A wire's cost stands before the match, whose arms
@@ -120,8 +119,7 @@ fn base_cost(kind: u32) -> u16
 pub fn base(kind: u32) -> u32
     ensures { result ≡ base_cost (min kind kind_most) }
 {
-    let k = if kind < KIND_MOST { kind } else { KIND_MOST };
-    base_cost(k) as u32
+    base_cost(kind.min(KIND_MOST)) as u32
 }
 
 // max(0, others + 1 - capacity)
@@ -137,51 +135,45 @@ fn overuse(others: u32, capacity: u32) -> u64
 }
 
 // The second running product, b_v · p_v in document 003: the base cost times the present congestion, in hundredths.
-fn congested_cost(kind: u32, factor: u32, others: u32, capacity: u32) -> u64
-    requires { (kind ≤ kind_most) × (factor ≤ factor_most) × (others ≤ others_most) × (1 ≤ capacity) }
-    ensures { result ≡ congested_cost kind factor others capacity }
+fn congested_cost(n: Numbers) -> u64
+    requires { (n.kind ≤ kind_most) × (n.factor ≤ factor_most) × (n.others ≤ others_most) × (1 ≤ n.capacity) }
+    ensures { result ≡ congested_cost n.kind n.factor n.others n.capacity }
 {
-    let base = base_cost(kind) as u64;
-    let over = overuse(others, capacity);
-    let present = 100 + factor as u64 * over;
+    let base = base_cost(n.kind) as u64;
+    let over = overuse(n.others, n.capacity);
+    let present = 100 + n.factor as u64 * over;
     base * present
 }
 
 // The third running product, b_v · p_v · h_v in document 003: that times the historical congestion.
-fn historic_cost(kind: u32, factor: u32, others: u32, capacity: u32, history: u32) -> u64
-    requires { InBounds kind factor others capacity history }
-    ensures { result ≡ historic_cost kind factor others capacity history }
+fn historic_cost(n: Numbers) -> u64
+    requires { InBounds n.kind n.factor n.others n.capacity n.history }
+    ensures { result ≡ historic_cost n.kind n.factor n.others n.capacity n.history }
 {
-    let congested = congested_cost(kind, factor, others, capacity);
-    congested * history as u64
+    congested_cost(n) * n.history as u64
 }
 
-// The price of a node of this kind and capacity at these numbers. 13 names the first of the five that is beyond its bounds.
-pub fn price(kind: u32, factor: u32, others: u32, capacity: u32, history: u32) -> PriceAnswer
-    ensures { price_reply_of result ≡ price_reply kind factor others capacity history }
+// The price of a node at these numbers. 13 names the first of the five that is beyond its bounds.
+#[tactic(auto, unfolding(crate::specs::Replies::price_reply))]
+pub fn price(n: Numbers) -> Result<u64, BadNumber>
+    ensures { price_reply_of result ≡ price_reply n.kind n.factor n.others n.capacity n.history }
 {
-    if KIND_MOST < kind {
-        return PriceAnswer::Refused(0);
+    if KIND_MOST < n.kind {
+        return Err(BadNumber { place: 0 });
     }
-    if FACTOR_MOST < factor {
-        return PriceAnswer::Refused(1);
+    if FACTOR_MOST < n.factor {
+        return Err(BadNumber { place: 1 });
     }
-    if OTHERS_MOST < others {
-        return PriceAnswer::Refused(2);
+    if OTHERS_MOST < n.others {
+        return Err(BadNumber { place: 2 });
     }
-    if capacity < 1 {
-        return PriceAnswer::Refused(3);
+    if n.capacity < 1 || CAPACITY_MOST < n.capacity {
+        return Err(BadNumber { place: 3 });
     }
-    if CAPACITY_MOST < capacity {
-        return PriceAnswer::Refused(3);
+    if n.history < 1 || HISTORY_MOST < n.history {
+        return Err(BadNumber { place: 4 });
     }
-    if history < 1 {
-        return PriceAnswer::Refused(4);
-    }
-    if HISTORY_MOST < history {
-        return PriceAnswer::Refused(4);
-    }
-    PriceAnswer::Price(historic_cost(kind, factor, others, capacity, history))
+    Ok(historic_cost(n))
 }
 
 // The congestion price and the delay of a node, weighed for a sink of this criticality.
@@ -193,54 +185,28 @@ fn weigh(criticality: u32, delay: u32, congestion: u64) -> u64
 }
 
 // The price of a node of this delay for a sink of this criticality. 13 names the first of the seven that is beyond its bounds.
-pub fn timed_price(
-    kind: u32,
-    factor: u32,
-    others: u32,
-    capacity: u32,
-    history: u32,
-    delay: u32,
-    criticality: u32,
-) -> PriceAnswer
-    ensures { price_reply_of result ≡ timed_reply kind factor others capacity history delay criticality }
+pub fn timed_price(n: Numbers, delay: u32, criticality: u32) -> Result<u64, BadNumber>
+    ensures { price_reply_of result ≡ timed_reply n.kind n.factor n.others n.capacity n.history delay criticality }
 {
-    let answer = price(kind, factor, others, capacity, history);
-    let PriceAnswer::Price(congestion) = answer else {
-        return answer;
-    };
+    let congestion = price(n)?;
     if DELAY_MOST < delay {
-        return PriceAnswer::Refused(5);
+        return Err(BadNumber { place: 5 });
     }
     if CRITICALITY_MOST < criticality {
-        return PriceAnswer::Refused(6);
+        return Err(BadNumber { place: 6 });
     }
-    PriceAnswer::Price(weigh(criticality, delay, congestion))
+    Ok(weigh(criticality, delay, congestion))
 }
 
 // The price of a node of this delay, timed or not.
-pub fn weighed_price(
-    w: Weighting,
-    kind: u32,
-    factor: u32,
-    others: u32,
-    capacity: u32,
-    history: u32,
-    delay: u32,
-) -> PriceAnswer
-    ensures { price_reply_of result ≡ weighed_reply w kind factor others capacity history delay }
+pub fn weighed_price(w: Weighting, n: Numbers, delay: u32) -> Result<u64, BadNumber>
+    ensures { price_reply_of result ≡ weighed_reply w n.kind n.factor n.others n.capacity n.history delay }
 {
     if w.timed {
-        return timed_price(
-            kind,
-            factor,
-            others,
-            capacity,
-            history,
-            delay,
-            w.criticality,
-        );
+        timed_price(n, delay, w.criticality)
+    } else {
+        price(n)
     }
-    price(kind, factor, others, capacity, history)
 }
 
 // The present congestion factor of the iteration after `iteration`, whose own factor is `factor`.
@@ -257,12 +223,7 @@ pub fn next_factor(g: Tuning, iteration: u32, factor: u32) -> u32
         return 0;
     }
     let grown = factor as u64 * g.up as u64 / g.down as u64;
-    let most = FACTOR_MOST as u64;
-    if grown < most {
-        grown as u32
-    } else {
-        FACTOR_MOST
-    }
+    grown.min(FACTOR_MOST as u64) as u32
 }
 
 // The historical congestion of a node after an iteration that leaves it with this many users.

@@ -1,6 +1,6 @@
 -- Request 2.13: what the cheapest path by the search that aims answers and leaves in the work slice.
 -- Assumes nothing.
-use Rattle.std.specs.Prelude.{List, [], ℕ, ◌+◌, eqb, length}
+use Rattle.std.specs.Prelude.{List, [], ℕ, ◌+◌, eqb, length, Option, Result, Ok, Err}
 use Rattle.price.specs.Test.{choose}
 use Rattle.search.specs.Block.{Block, nodes}
 use Rattle.search.specs.Turn.{Congestion, Turn, turn}
@@ -8,7 +8,9 @@ use Rattle.search.specs.Aimed.{estimate, expanded_by}
 use Rattle.search.specs.ByTarget.{agreed, turned}
 use Rattle.search.specs.Clamped.{clamped_price, clamped_weight}
 use Rattle.search.specs.Replies.{cleared, PathReply, bad_table, turn_numbers, turn_path, fitting, path_due, path_reply_of}
-use Rattle.search.specs.declared.AimedPath.{AimedPath}
+use Rattle.search.specs.declared.Refusal.{Refusal}
+use Rattle.search.specs.declared.Joins.{Joins}
+use Rattle.search.specs.declared.AimedTurn.{AimedTurn}
 
 -- the answer of a turn and its work slice, and "The aimed answer also counts the nodes expanded"
 pub record AimedPathReply : Type 0 where
@@ -45,6 +47,15 @@ aimed_path_reply b r c marks sinks work =
     (refused_reply (bad_table 3) work))
     (refused_reply (path_due b c marks sinks work) work)
 
+-- what is joined, as the plain search answers it; and how many nodes were expanded, 0 after a refusal
+abbrev pub joins_of : Result AimedTurn Refusal → Result (Option Joins) Refusal
+joins_of (Ok turn) = Ok turn.joins
+joins_of (Err refusal) = Err refusal
+
+abbrev pub expanded_in : Result AimedTurn Refusal → ℕ
+expanded_in (Ok turn) = turn.expanded
+expanded_in (Err _) = 0
+
 -- the answer with the work slice at the call's end
-abbrev pub aimed_path_reply_of : AimedPath → List ℕ → AimedPathReply
-aimed_path_reply_of r work = record { path = path_reply_of r.answer work; expanded = r.expanded }
+abbrev pub aimed_path_reply_of : Result AimedTurn Refusal → List ℕ → AimedPathReply
+aimed_path_reply_of r work = record { path = path_reply_of (joins_of r) work; expanded = expanded_in r }

@@ -1,6 +1,6 @@
 -- What the private functions of a turn that aims do to its work slice. Only their contracts cite this file: no caller has to believe it.
 -- Assumes nothing.
-use Rattle.std.specs.Prelude.{Bool, true, false, List, [], ◌++◌, ◌⊎◌, ◌≡◌, ℕ, ◌+◌, ◌-◌, ◌*◌, ◌≤◌, ◌<◌, min, length, get_or, take, drop}
+use Rattle.std.specs.Prelude.{Bool, true, false, List, [], ◌++◌, ◌⊎◌, ◌≡◌, ℕ, ◌+◌, ◌-◌, ◌*◌, ◌≤◌, ◌<◌, min, length, get_or, take, drop, Option, Some, None}
 use Rattle.std.specs.Prelude.{replicate}
 use Rattle.price.specs.Test.{choose}
 use Rattle.price.specs.Bounds.{nodes_most}
@@ -17,8 +17,7 @@ use Rattle.search.specs.Aimed.{estimate, expands_by}
 use Rattle.search.specs.ByTarget.{in_both, Counted}
 use Rattle.search.specs.Estimates.{NoneGiven}
 use Rattle.search.specs.Aiming.{ExpandsExactly, AimDone}
-use Rattle.search.specs.declared.PathAnswer.{PathAnswer}
-use Rattle.search.specs.declared.PathAnswer.TheVariants.{Stuck}
+use Rattle.search.specs.declared.Joins.{Joins}
 
 -- what bounds from below the key of any node that lacks an estimate, at this level of the estimates: `far` where none is coming
 pub data LeastLacking (scale level count lacking low r : ℕ) : Type 0 where
@@ -80,9 +79,10 @@ pub record Readable (n : ℕ) (marks sinks w : List ℕ) (cost : ℕ) : Type 0 w
   pub found : (cost ≡ far → ⊥) → (w' : List ℕ) → PredecessorsMoved n w w' → Found n marks sinks w' cost
 
 -- the answer `r` with its count: no sink is joined and the work slice is cleared, or the path is read off and the rest cleared
-pub data AimedRead (n : ℕ) (marks sinks w : List ℕ) (cost count : ℕ) (r : PathAnswer) (counted : ℕ) (w' : List ℕ) : Type 0 where
-  none : cost ≡ far → r ≡ Stuck → counted ≡ 0 → w' ≡ cleared n [] w → AimedRead n marks sinks w cost count r counted w'
+pub data AimedRead (n : ℕ) (marks sinks w : List ℕ) (cost count : ℕ) (r : Option Joins) (counted : ℕ) (w' : List ℕ) : Type 0 where
+  none : cost ≡ far → r ≡ None → counted ≡ 0 → w' ≡ cleared n [] w → AimedRead n marks sinks w cost count r counted w'
   reads :
-      (cost ≡ far → ⊥) → (moved read : List ℕ) → PredecessorsMoved n w moved → Read n marks sinks moved cost r read → counted ≡ count
+      (cost ≡ far → ⊥) → (moved read : List ℕ) → PredecessorsMoved n w moved → (j : Joins) → r ≡ Some j
+      → Read n marks sinks moved cost j read → counted ≡ count
       → w' ≡ take (3 * n) read ++ (replicate (8 * n - 3 * n) 0 ++ drop (8 * n) read)
       → AimedRead n marks sinks w cost count r counted w'

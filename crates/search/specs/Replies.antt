@@ -1,7 +1,7 @@
 -- What the calls of the search answer and leave in the work slice, as the numbers of document 01's table "Numbers for a stopped call".
 -- Assumes nothing.
 use Rattle.std.specs.Prelude.{Bool, true, false, not, List, [], ◌∷◌, ◌++◌, ℕ, ◌+◌, ◌*◌, ◌-◌, ◌<◌, leb, ltb, eqb, length, get_or, take}
-use Rattle.std.specs.Prelude.{drop, replicate}
+use Rattle.std.specs.Prelude.{drop, replicate, Option, Some, None, Result, Ok, Err}
 use Rattle.price.specs.Test.{choose, both}
 use Rattle.price.specs.Bounds.{factor_most, others_most, nodes_most, criticality_most, timed_nodes_most}
 use Rattle.price.specs.Lists.{every, first_below}
@@ -13,10 +13,9 @@ use Rattle.search.specs.Paths.{CheapestPath, NoPath}
 use Rattle.search.specs.Distance.{LeastCost, tree_has, distances}
 use Rattle.search.specs.Turn.{Congestion, price_at, Turn, joins, stuck, turn}
 use Rattle.search.specs.Clamped.{clamped_price}
-use Rattle.search.specs.declared.SearchAnswer.{SearchAnswer}
-use Rattle.search.specs.declared.SearchAnswer.TheVariants as s
-use Rattle.search.specs.declared.PathAnswer.{PathAnswer}
-use Rattle.search.specs.declared.PathAnswer.TheVariants as p
+use Rattle.search.specs.declared.Refusal.{Refusal}
+use Rattle.search.specs.declared.Refusal.TheVariants.{BadTable, ShortWork, BadNumber, TooLarge}
+use Rattle.search.specs.declared.Joins.{Joins}
 
 -- "Work memory is enough from 8 × nodes entries."
 abbrev pub work_needed : ℕ → ℕ
@@ -85,13 +84,17 @@ pub record SearchReply : Type 0 where
   pub refusal : List ℕ
   pub work : List ℕ
 
+-- 01's numbers for each refusal
+abbrev pub refusal_numbers : Refusal → List ℕ
+refusal_numbers (BadTable table) = bad_table table
+refusal_numbers (ShortWork needed) = short_work needed
+refusal_numbers (BadNumber place) = bad_number place
+refusal_numbers (TooLarge n) = too_large n
+
 -- 01's numbers for each case of the answer
-abbrev pub search_refusal : SearchAnswer → List ℕ
-search_refusal s.Done = []
-search_refusal (s.BadTable table) = bad_table table
-search_refusal (s.ShortWork needed) = short_work needed
-search_refusal (s.BadNumber place) = bad_number place
-search_refusal (s.TooLarge n) = too_large n
+abbrev pub search_refusal : Result (Unit {0}) Refusal → List ℕ
+search_refusal (Ok _) = []
+search_refusal (Err refusal) = refusal_numbers refusal
 
 -- the distances unless something is refused; a refusal leaves the work slice as it was
 abbrev pub search_unless_refused : List ℕ → List ℕ → List ℕ → SearchReply
@@ -122,16 +125,13 @@ timed_search_reply b c marks work =
     work
 
 -- the answer with the work slice at the call's end
-abbrev pub search_reply_of : SearchAnswer → List ℕ → SearchReply
+abbrev pub search_reply_of : Result (Unit {0}) Refusal → List ℕ → SearchReply
 search_reply_of r work = record { refusal = search_refusal r; work = work }
 
 -- the same in terms of paths alone: a search that isn't refused leaves for each node the least cost of a path from the tree
-abbrev pub LeavesLeastCosts : Block → (ℕ → ℕ) → List ℕ → SearchAnswer → List ℕ → Type 0
-LeavesLeastCosts b price marks s.Done work = (v : ℕ) → v < nodes b → LeastCost b price (tree_has marks) v (get_or work v 0)
-LeavesLeastCosts b price marks (s.BadTable table) work = Unit {0}
-LeavesLeastCosts b price marks (s.ShortWork needed) work = Unit {0}
-LeavesLeastCosts b price marks (s.BadNumber place) work = Unit {0}
-LeavesLeastCosts b price marks (s.TooLarge n) work = Unit {0}
+abbrev pub LeavesLeastCosts : Block → (ℕ → ℕ) → List ℕ → Result (Unit {0}) Refusal → List ℕ → Type 0
+LeavesLeastCosts b price marks (Ok _) work = (v : ℕ) → v < nodes b → LeastCost b price (tree_has marks) v (get_or work v 0)
+LeavesLeastCosts b price marks (Err _) work = Unit {0}
 
 -- ---- the cheapest path of one turn
 
@@ -213,33 +213,23 @@ path_reply b c marks sinks work =
     (record { refusal = path_due b c marks sinks work; joined = []; work = work })
 
 -- 01's numbers for each case of the answer
-abbrev pub path_refusal : PathAnswer → List ℕ
-path_refusal (p.Joins place cost n) = []
-path_refusal p.Stuck = []
-path_refusal (p.BadTable table) = bad_table table
-path_refusal (p.ShortWork needed) = short_work needed
-path_refusal (p.BadNumber place) = bad_number place
-path_refusal (p.TooLarge n) = too_large n
+abbrev pub path_refusal : Result (Option Joins) Refusal → List ℕ
+path_refusal (Ok _) = []
+path_refusal (Err refusal) = refusal_numbers refusal
 
-abbrev pub path_numbers : PathAnswer → List ℕ
-path_numbers (p.Joins place cost n) = place ∷ cost ∷ n ∷ []
-path_numbers p.Stuck = []
-path_numbers (p.BadTable table) = []
-path_numbers (p.ShortWork needed) = []
-path_numbers (p.BadNumber place) = []
-path_numbers (p.TooLarge n) = []
+abbrev pub path_numbers : Result (Option Joins) Refusal → List ℕ
+path_numbers (Ok (Some j)) = j.place ∷ j.cost ∷ j.length ∷ []
+path_numbers (Ok None) = []
+path_numbers (Err _) = []
 
 -- the answer with the work slice at the call's end
-abbrev pub path_reply_of : PathAnswer → List ℕ → PathReply
+abbrev pub path_reply_of : Result (Option Joins) Refusal → List ℕ → PathReply
 path_reply_of r work = record { refusal = path_refusal r; joined = path_numbers r; work = work }
 
 -- the same in terms of paths alone: a sink that is joined is joined by a cheapest path, which stands at the beginning of the work slice;
 -- where the turn is stuck there is no path
-abbrev pub JoinsCheapest : Block → (ℕ → ℕ) → List ℕ → List ℕ → PathAnswer → List ℕ → Type 0
-JoinsCheapest b price marks sinks (p.Joins place cost n) work =
-    CheapestPath b price (tree_has marks) sinks (get_or sinks place 0) cost (take n work)
-JoinsCheapest b price marks sinks p.Stuck work = NoPath b (tree_has marks) sinks
-JoinsCheapest b price marks sinks (p.BadTable table) work = Unit {0}
-JoinsCheapest b price marks sinks (p.ShortWork needed) work = Unit {0}
-JoinsCheapest b price marks sinks (p.BadNumber place) work = Unit {0}
-JoinsCheapest b price marks sinks (p.TooLarge n) work = Unit {0}
+abbrev pub JoinsCheapest : Block → (ℕ → ℕ) → List ℕ → List ℕ → Result (Option Joins) Refusal → List ℕ → Type 0
+JoinsCheapest b price marks sinks (Ok (Some j)) work =
+    CheapestPath b price (tree_has marks) sinks (get_or sinks j.place 0) j.cost (take j.length work)
+JoinsCheapest b price marks sinks (Ok None) work = NoPath b (tree_has marks) sinks
+JoinsCheapest b price marks sinks (Err _) work = Unit {0}

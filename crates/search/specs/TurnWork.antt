@@ -10,8 +10,7 @@ use Rattle.search.specs.Layout.{SameBut}
 use Rattle.search.specs.Replies.{sinks_most, read_off}
 use Rattle.search.specs.Labels.{goal, label_at, from_at, wait_at, beside_at, Waits}
 use Rattle.search.specs.Spread.{bare_count}
-use Rattle.search.specs.declared.PathAnswer.{PathAnswer}
-use Rattle.search.specs.declared.PathAnswer.TheVariants.{Joins}
+use Rattle.search.specs.declared.Joins.{Joins}
 
 -- ---- before the labels spread
 
@@ -98,9 +97,10 @@ pub record Found (n : ℕ) (marks sinks w : List ℕ) (cost : ℕ) : Type 0 wher
       → length (path_in n marks w (get_or sinks j 0)) ≤ n
 
 -- the first node so far is named, its path stands at the beginning of the work slice, and the rest up to 3 n is 0
-pub record Read (n : ℕ) (marks sinks w : List ℕ) (cost : ℕ) (r : PathAnswer) (w' : List ℕ) : Type 0 where
+pub record Read (n : ℕ) (marks sinks w : List ℕ) (cost : ℕ) (r : Joins) (w' : List ℕ) : Type 0 where
   pub place : ℕ
   pub first : FirstAt n cost sinks w place
   pub within : place < length sinks
-  pub answer : r ≡ Joins place cost (length (path_in n marks w (get_or sinks place 0)))
+  pub answer :
+      r ≡ record { place = place; cost = cost; length = length (path_in n marks w (get_or sinks place 0)) }
   pub work : w' ≡ read_off n (path_in n marks w (get_or sinks place 0)) w

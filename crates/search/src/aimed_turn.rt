@@ -5,7 +5,7 @@ ghost use Rattle.std.specs.Prelude.{Bool, true, false, List, ◌≡◌, ◌⊎�
 ghost use Rattle.price.specs.Bounds.{nodes_most};
 ghost use Rattle.search.specs.Block.{block_of, graph_of};
 ghost use Rattle.search.specs.Distance.{far};
-ghost use Rattle.search.specs.Turn.{weighed_congestion};
+ghost use Rattle.search.specs.Lent.{block_in, back_in, congestion_in};
 ghost use Rattle.search.specs.Replies.{sinks_most};
 ghost use Rattle.search.specs.Priceable.{Fitted};
 ghost use Rattle.search.specs.Layout.{SameBut};
@@ -17,8 +17,7 @@ ghost use Rattle.search.specs.AimedReplies.{aimed_path_reply_of, aimed_turn_repl
 use crate::aim::Reach;
 use crate::buckets::BUCKETS;
 use crate::estimate::Front;
-use crate::{AimedPath, PathAnswer, aim, buckets, estimate, labels, turn, zeros};
-use price::Weighting;
+use crate::{AimedTurn, Back, Prices, Tables, aim, buckets, estimate, fill, labels, turn};
 
 // The distance of the joined sink, FAR where none has a path, and how many nodes were expanded.
 #[derive(Clone, Copy)]
@@ -27,17 +26,13 @@ struct Aimed {
     expanded: u32,
 }
 
-// Entries from `from` to below `to` hold FAR. A loop of its own, which is compiled to a call that fills memory.
+// Entries from `from` to below `to` hold FAR.
 fn fill_far(work: &mut [u64], from: usize, to: usize)
     requires { (from ≤ to) × (to ≤ length work.old) }
     ensures { let after = work.new in
         SameBut from to work.old after × ((j : ℕ) → from ≤ j → j < to → get_or after j 0 ≡ far) }
 {
-    let mut k = from;
-    while k < to {
-        work[k] = labels::FAR;
-        k += 1;
-    }
+    fill::fill(work, from, to, labels::FAR);
 }
 
 // Tree nodes are at distance 0, the others have no distance. No node has an estimate, and none waits. Answers how many tree nodes there
@@ -80,57 +75,53 @@ fn least_lacking(scale: u64, level: usize, f: Front, low: u64) -> u64
 fn done(least: u64, coming: u64, best: u64) -> bool
     ensures { Halts least coming best result }
 {
-    let next = if least <= coming { least } else { coming };
-    if next == labels::FAR {
-        return true;
-    }
-    best < next
+    let next = least.min(coming);
+    next == labels::FAR || best < next
 }
 
 // The node of least key is expanded where no lower one can come, else the estimate of least level is spread, until nothing is left to be
 // expanded or its key is above the nearest sink's distance.
 fn run(
-    kind: &[u8],
-    capacity: &[u8],
-    first_edge: &[u32],
-    edge_target: &[u16],
-    first_back: &[u32],
-    back_source: &[u16],
-    weighting: Weighting,
-    delay: &[u16],
-    factor: u32,
+    tables: &Tables,
+    back: &Back,
+    prices: &Prices,
     work: &mut [u64],
-    history: &[u32],
-    others: &[u16],
     in_tree: &[u8],
     sinks: &[u16],
     trees: usize,
 ) -> Aimed
-    requires { let b = block_of kind.now capacity.now first_edge.now edge_target.now in
-        let back = graph_of kind.now first_back.now back_source.now in
-        let c = weighed_congestion weighting delay.now factor history.now others.now in
-        TurnReady b back c in_tree.now sinks.now work.old
-        × ((w : List ℕ) × Started (length kind.now) in_tree.now w work.old trees) }
+    requires { let b = block_in tables.now in
+        let r = back_in tables.now.kind.now back.now in
+        let c = congestion_in prices.now in
+        TurnReady b r c in_tree.now sinks.now work.old
+        × ((w : List ℕ) × Started (length tables.now.kind.now) in_tree.now w work.old trees) }
     ensures { (firsts targets backs sources : List ℕ) → do
-      let b = block_of kind.now capacity.now first_edge.now edge_target.now
-      let back = graph_of kind.now first_back.now back_source.now
-      let c = weighed_congestion weighting delay.now factor history.now others.now
+      let b = block_in tables.now
+      let r = back_in tables.now.kind.now back.now
+      let c = congestion_in prices.now
       let marks = in_tree.now
       let list = sinks.now
       let before = work.old
       let after = work.new
-      Counted b back firsts targets backs sources
-          → SinksAimed b back c marks list before after firsts targets backs sources result.cost result.expanded }
+      Counted b r firsts targets backs sources
+          → SinksAimed b r c marks list before after firsts targets backs sources result.cost result.expanded }
 {
-    let n = kind.len();
-    let scale = estimate::scale_of(weighting);
+    let n = tables.kind.len();
+    let scale = estimate::scale_of(prices.weighting);
     let mut head = [0u16; BUCKETS];
     let begun = Front {
         count: 0,
         lacking: trees,
     };
     let mut f = estimate::give_sinks(
-        kind, first_back, work, &mut head, scale, begun, in_tree, sinks,
+        tables.kind,
+        back,
+        work,
+        &mut head,
+        scale,
+        begun,
+        in_tree,
+        sinks,
     );
     let mut r = Reach {
         best: labels::FAR,
@@ -147,37 +138,14 @@ fn run(
         if done(least, coming, r.best) {
             return Aimed {
                 cost: r.best,
-                expanded: expanded,
+                expanded,
             };
         }
         if least <= coming {
             expanded += 1;
-            r = aim::expand_next(
-                kind,
-                capacity,
-                history,
-                others,
-                weighting,
-                delay,
-                factor,
-                first_edge,
-                edge_target,
-                first_back,
-                back_source,
-                work,
-                r,
-            );
+            r = aim::expand_next(tables, prices, back, work, r);
         } else {
-            f = estimate::spread_next(
-                kind,
-                first_back,
-                back_source,
-                work,
-                &mut head,
-                scale,
-                f,
-                level,
-            );
+            f = estimate::spread_next(tables.kind, back, work, &mut head, scale, f, level);
         }
     }
 }
@@ -187,86 +155,60 @@ fn move_predecessors(work: &mut [u64], n: usize)
     requires { 8 * n ≤ length work.old }
     ensures { PredecessorsMoved n work.old work.new }
 {
-    let mut v = 0;
-    while v < n {
+    for v in 0..n {
         work[n + v] = work[4 * n + v];
-        v += 1;
     }
 }
 
 // Leaves the path to the joined sink at the beginning of the work slice, and 0 in the rest of it.
-fn read_aimed(sinks: &[u16], in_tree: &[u8], work: &mut [u64], n: usize, found: Aimed) -> AimedPath
+fn read_aimed(sinks: &[u16], in_tree: &[u8], work: &mut [u64], n: usize, found: Aimed) -> AimedTurn
     requires { Readable n in_tree.now sinks.now work.old found.cost }
     ensures { let marks = in_tree.now in
         let list = sinks.now in
         let before = work.old in
-        AimedRead n marks list before found.cost found.expanded result.answer result.expanded work.new }
+        AimedRead n marks list before found.cost found.expanded result.joins result.expanded work.new }
 {
     let cost = found.cost;
     if cost == labels::FAR {
-        zeros::clear(work, 0, 8 * n);
-        return AimedPath {
-            answer: PathAnswer::Stuck,
+        fill::fill(work, 0, 8 * n, 0);
+        return AimedTurn {
+            joins: None,
             expanded: 0,
         };
     }
     move_predecessors(work, n);
-    let answer = turn::read_path(sinks, in_tree, work, n, cost);
-    zeros::clear(work, 3 * n, 8 * n);
-    AimedPath {
-        answer: answer,
+    let joins = turn::read_path(sinks, in_tree, work, n, cost);
+    fill::fill(work, 3 * n, 8 * n, 0);
+    AimedTurn {
+        joins: Some(joins),
         expanded: found.expanded,
     }
 }
 
 // One turn: joins the nearest sink that is still to be joined, where every list has its length.
 pub fn join(
-    kind: &[u8],
-    capacity: &[u8],
-    first_edge: &[u32],
-    edge_target: &[u16],
-    first_back: &[u32],
-    back_source: &[u16],
-    weighting: Weighting,
-    delay: &[u16],
-    factor: u32,
+    tables: &Tables,
+    back: &Back,
+    prices: &Prices,
     work: &mut [u64],
-    history: &[u32],
-    others: &[u16],
     in_tree: &[u8],
     sinks: &[u16],
-) -> AimedPath
-    requires { let b = block_of kind.now capacity.now first_edge.now edge_target.now in
-        let c = weighed_congestion weighting delay.now factor history.now others.now in
-        Fitted b c in_tree.now sinks.now work.old × (length first_back.now ≡ length kind.now + 1) }
+) -> AimedTurn
+    requires { let b = block_in tables.now in
+        let c = congestion_in prices.now in
+        Fitted b c in_tree.now sinks.now work.old × (length back.now.first_back.now ≡ length tables.now.kind.now + 1) }
     ensures { (firsts targets backs sources : List ℕ) → do
-      let kinds = kind.now
-      let b = block_of kinds capacity.now first_edge.now edge_target.now
-      let back = graph_of kinds first_back.now back_source.now
-      let c = weighed_congestion weighting delay.now factor history.now others.now
-      let a = block_of kinds capacity.now firsts targets
+      let kinds = tables.now.kind.now
+      let b = block_in tables.now
+      let r = back_in kinds back.now
+      let c = congestion_in prices.now
+      let a = block_of kinds tables.now.capacity.now firsts targets
       let e = graph_of kinds backs sources
       let reply = aimed_turn_reply a e c in_tree.now sinks.now work.old
-      Counted b back firsts targets backs sources → aimed_path_reply_of result work.new ≡ reply }
+      Counted b r firsts targets backs sources → aimed_path_reply_of (Ok result) work.new ≡ reply }
 {
-    let n = kind.len();
+    let n = tables.kind.len();
     let trees = start(in_tree, work, n);
-    let found = run(
-        kind,
-        capacity,
-        first_edge,
-        edge_target,
-        first_back,
-        back_source,
-        weighting,
-        delay,
-        factor,
-        work,
-        history,
-        others,
-        in_tree,
-        sinks,
-        trees,
-    );
+    let found = run(tables, back, prices, work, in_tree, sinks, trees);
     read_aimed(sinks, in_tree, work, n, found)
 }

@@ -5,6 +5,7 @@ ghost use Rattle.std.specs.Prelude.{Bool, true, false, ◌≡◌, ℕ, ◌+◌, 
 ghost use Rattle.price.specs.Test.{choose};
 ghost use Rattle.price.specs.Bounds.{nodes_most, base_most};
 ghost use Rattle.search.specs.Block.{graph_of};
+ghost use Rattle.search.specs.Lent.{back_in};
 ghost use Rattle.search.specs.Distance.{far};
 ghost use Rattle.search.specs.Clamped.{clamped_base, clamped_scale};
 ghost use Rattle.search.specs.Layout.{dist_at, estimate_at, Tournament};
@@ -12,7 +13,7 @@ ghost use Rattle.search.specs.Buckets.{buckets, Lined, waits};
 ghost use Rattle.search.specs.Estimates.{scale_most, level_most, reach_most, lacking_in, Sized, Given, WaitsToSpread};
 ghost use Rattle.search.specs.Estimates.{GiveReady, GivenBefore, Spread, NoneGiven, SinksGiven};
 
-use crate::{buckets, labels, queue};
+use crate::{Back, buckets, labels, queue};
 use price::Weighting;
 
 // How far the estimates have spread: so many nodes wait to spread theirs, and so many tree nodes have none.
@@ -36,7 +37,7 @@ pub fn scale_of(weighting: Weighting) -> u64
 // Node u waits to spread its estimate, unless no edge leads to it. Answers how many wait.
 fn wait_to_spread(
     kind: &[u8],
-    first_back: &[u32],
+    back: &Back,
     work: &mut [u64],
     head: &mut [u16],
     count: usize,
@@ -44,17 +45,17 @@ fn wait_to_spread(
     estimate: usize,
 ) -> usize
     requires { let n = length kind.now in
-        (u < n) × (n ≤ nodes_most) × (8 * n ≤ length work.old) × (length head.old ≡ buckets) × (length first_back.now ≡ n + 1)
+        (u < n) × (n ≤ nodes_most) × (8 * n ≤ length work.old) × (length head.old ≡ buckets) × (length back.now.first_back.now ≡ n + 1)
         × (estimate ≤ level_most) × (count < n) }
     ensures { let n = length kind.now in
         let before = work.old in
         let after = work.new in
         let level = estimate + clamped_base kind.now u in
         let heads = head.old in
-        WaitsToSpread n first_back.now u level before after heads head.new count result
+        WaitsToSpread n back.now.first_back.now u level before after heads head.new count result
         × ((after ≡ before) ⊎ ((x : ℕ) × (after ≡ set before (3 * n + u) x))) }
 {
-    if first_back[u + 1] <= first_back[u] {
+    if back.first_back[u + 1] <= back.first_back[u] {
         return count;
     }
     let level = estimate + price::base(kind[u] as u32) as usize;
@@ -65,7 +66,7 @@ fn wait_to_spread(
 // Node u gets its estimate. It waits to spread it, and to be expanded if it has a distance.
 fn give(
     kind: &[u8],
-    first_back: &[u32],
+    back: &Back,
     work: &mut [u64],
     head: &mut [u16],
     scale: u64,
@@ -75,7 +76,7 @@ fn give(
 ) -> Front
     requires { let n = length kind.now in
         let w = work.old in
-        (u < n) × (n ≤ nodes_most) × (length head.old ≡ buckets) × (length first_back.now ≡ n + 1) × (scale ≤ scale_most)
+        (u < n) × (n ≤ nodes_most) × (length head.old ≡ buckets) × (length back.now.first_back.now ≡ n + 1) × (scale ≤ scale_most)
         × (estimate ≤ level_most) × (f.count < n) × Sized n w × Tournament n w × (dist_at w u ≡ 0 → 0 < f.lacking) }
     ensures { let n = length kind.now in
         let before = work.old in
@@ -83,33 +84,29 @@ fn give(
         let level = estimate + clamped_base kind.now u in
         let heads = head.old in
         Given n u (scale * estimate) before after
-        × WaitsToSpread n first_back.now u level before after heads head.new f.count result.count
+        × WaitsToSpread n back.now.first_back.now u level before after heads head.new f.count result.count
         × (result.lacking ≡ choose (eqb (dist_at before u) 0) (f.lacking - 1) f.lacking) }
 {
     let n = kind.len();
     let left = scale * estimate as u64;
     work[6 * n + u] = left;
-    let count = wait_to_spread(kind, first_back, work, head, f.count, u, estimate);
+    let count = wait_to_spread(kind, back, work, head, f.count, u, estimate);
     let d = work[u];
     if d == labels::FAR {
         return Front {
-            count: count,
+            count,
             lacking: f.lacking,
         };
     }
     queue::wait(work, n, u, d + left);
     let lacking = if d == 0 { f.lacking - 1 } else { f.lacking };
-    Front {
-        count: count,
-        lacking: lacking,
-    }
+    Front { count, lacking }
 }
 
 // Every node before v gets this estimate, unless it has one.
 fn give_before(
     kind: &[u8],
-    first_back: &[u32],
-    back_source: &[u16],
+    back: &Back,
     work: &mut [u64],
     head: &mut [u16],
     scale: u64,
@@ -117,10 +114,10 @@ fn give_before(
     v: usize,
     estimate: usize,
 ) -> Front
-    requires { let r = graph_of kind.now first_back.now back_source.now in
+    requires { let r = back_in kind.now back.now in
         let base = clamped_base kind.now in
         (v < length kind.now) × GiveReady r base scale estimate work.old head.old start.count start.lacking }
-    ensures { let r = graph_of kind.now first_back.now back_source.now in
+    ensures { let r = back_in kind.now back.now in
         let n = length kind.now in
         let base = clamped_base kind.now in
         let before = work.old in
@@ -131,17 +128,13 @@ fn give_before(
         × (result.lacking ≡ lacking_in n after) }
 {
     let n = kind.len();
-    let to = labels::row_place(first_back, back_source.len(), v + 1);
-    let mut e = labels::row_place(first_back, back_source.len(), v);
+    let to = labels::row_place(back.first_back, back.back_source.len(), v + 1);
     let mut f = start;
-    while e < to {
-        let u = back_source[e] as usize;
-        if u < n {
-            if work[6 * n + u] == labels::FAR {
-                f = give(kind, first_back, work, head, scale, f, u, estimate);
-            }
+    for e in labels::row_place(back.first_back, back.back_source.len(), v)..to {
+        let u = back.back_source[e] as usize;
+        if u < n && work[6 * n + u] == labels::FAR {
+            f = give(kind, back, work, head, scale, f, u, estimate);
         }
-        e += 1;
     }
     f
 }
@@ -149,19 +142,18 @@ fn give_before(
 // Spreads the estimate of a node that waits at this level, the least.
 pub fn spread_next(
     kind: &[u8],
-    first_back: &[u32],
-    back_source: &[u16],
+    back: &Back,
     work: &mut [u64],
     head: &mut [u16],
     scale: u64,
     f: Front,
     level: usize,
 ) -> Front
-    requires { let r = graph_of kind.now first_back.now back_source.now in
+    requires { let r = back_in kind.now back.now in
         let base = clamped_base kind.now in
         ((g : GiveReady r base scale level work.old head.old f.count f.lacking)
         × ((v : ℕ) × (waits g.lined v ≡ true) × (g.lined.level v ≡ level))) }
-    ensures { let r = graph_of kind.now first_back.now back_source.now in
+    ensures { let r = back_in kind.now back.now in
         let n = length kind.now in
         let base = clamped_base kind.now in
         let before = work.old in
@@ -176,23 +168,13 @@ pub fn spread_next(
         count: f.count - 1,
         lacking: f.lacking,
     };
-    give_before(
-        kind,
-        first_back,
-        back_source,
-        work,
-        head,
-        scale,
-        left,
-        v,
-        level,
-    )
+    give_before(kind, back, work, head, scale, left, v, level)
 }
 
 // The sinks that are still to be joined have estimate 0 and wait.
 pub fn give_sinks(
     kind: &[u8],
-    first_back: &[u32],
+    back: &Back,
     work: &mut [u64],
     head: &mut [u16],
     scale: u64,
@@ -202,12 +184,12 @@ pub fn give_sinks(
 ) -> Front
     requires { let n = length kind.now in
         let w = work.old in
-        (n ≤ nodes_most) × (length first_back.now ≡ n + 1) × (1 ≤ scale) × (scale ≤ scale_most) × Sized n w × Tournament n w
+        (n ≤ nodes_most) × (length back.now.first_back.now ≡ n + 1) × (1 ≤ scale) × (scale ≤ scale_most) × Sized n w × Tournament n w
         × NoneGiven n w × (length head.old ≡ buckets) × ((b : ℕ) → b < buckets → get_or head.old b 0 ≡ 0) × (start.count ≡ 0)
         × (start.lacking ≡ lacking_in n w) × (n ≤ length in_tree.now)
         × ((v : ℕ) → v < n → (get_or in_tree.now v 0 ≡ 1 → ⊥) → dist_at w v ≡ far) }
     ensures { ((sources : List ℕ) → do
-      let r = graph_of kind.now first_back.now sources
+      let r = graph_of kind.now back.now.first_back.now sources
       let list = sinks.now
       let before = work.old
       let base = clamped_base kind.now
@@ -216,17 +198,11 @@ pub fn give_sinks(
 {
     let n = kind.len();
     let mut f = start;
-    let mut i = 0;
-    while i < sinks.len() {
-        let s = sinks[i] as usize;
-        if s < n {
-            if in_tree[s] != 1 {
-                if work[6 * n + s] == labels::FAR {
-                    f = give(kind, first_back, work, head, scale, f, s, 0);
-                }
-            }
+    for sink in sinks {
+        let s = *sink as usize;
+        if s < n && in_tree[s] != 1 && work[6 * n + s] == labels::FAR {
+            f = give(kind, back, work, head, scale, f, s, 0);
         }
-        i += 1;
     }
     f
 }

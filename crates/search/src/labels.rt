@@ -7,16 +7,15 @@
 ghost use Rattle.std.specs.Prelude.{false, ◌≡◌, ◌+◌, ◌*◌, ◌≤◌, ◌<◌, min, length, get_or};
 ghost use Rattle.price.specs.Bounds.{nodes_most};
 ghost use Rattle.price.specs.Timed.{weighed_most};
-ghost use Rattle.search.specs.Block.{graph_of};
-ghost use Rattle.search.specs.Turn.{weighed_congestion};
-ghost use Rattle.search.specs.Clamped.{clamped as clamped_at, clamped_weighting, clamped_price, ListsLong};
+ghost use Rattle.search.specs.Lent.{graph_in, congestion_in, price_read, Long};
+ghost use Rattle.search.specs.Clamped.{clamped_weighting};
 ghost use Rattle.search.specs.Labels.{label_at, from_at, with_from};
 ghost use Rattle.search.specs.Spread.{DeadEnd, LeadsNowhere, Idle, RowReady, Labelled, GoalMet, Lowered};
 ghost use Rattle.search.specs.Spread.{EdgeRelaxed, LabelReady, RelaxReady};
 ghost use Rattle.search.specs.Spread.{SettleReady, NodeSettled, RunReady, SpreadStopped};
 
-use crate::{heap, weighing};
-use price::{PriceAnswer, Weighting};
+use crate::{Prices, Tables, heap, weighing};
+use price::{Numbers, Weighting};
 
 // No path; as a label: none yet.
 pub const FAR: u64 = 18446744073709551615;
@@ -31,68 +30,39 @@ pub struct Reach {
     pub count: usize,
 }
 
-// x, but at least `low` and at most `high`.
-fn clamped(low: u32, high: u32, x: u32) -> u32
-    ensures { result ≡ clamped_at low high x }
-{
-    if x < low {
-        return low;
-    }
-    if high < x { high } else { x }
-}
-
 // How delay is weighed, with the criticality read within its bounds.
 pub fn clamped_weighting(weighting: Weighting) -> Weighting
     ensures { result ≡ clamped_weighting weighting }
 {
-    let criticality = clamped(0, price::CRITICALITY_MOST, weighting.criticality);
     Weighting {
         timed: weighting.timed,
-        criticality: criticality,
+        criticality: weighting.criticality.min(price::CRITICALITY_MOST),
     }
 }
 
 // The price of node v, each number read within its bounds.
-pub fn clamped_price(
-    kind: &[u8],
-    capacity: &[u8],
-    history: &[u32],
-    others: &[u16],
-    weighting: Weighting,
-    delay: &[u16],
-    factor: u32,
-    v: usize,
-) -> u64
-    requires lists_long { ListsLong kind.now capacity.now (weighed_congestion weighting delay.now factor history.now others.now) }
-    requires v_in_bounds { v < length kind.now }
-    ensures { let c = weighed_congestion weighting delay.now factor history.now others.now in
-        (result ≡ clamped_price kind.now capacity.now c v) × (result ≤ weighed_most weighting) }
+pub fn clamped_price(tables: &Tables, prices: &Prices, v: usize) -> u64
+    requires lists_long { Long tables.now prices.now }
+    requires v_in_bounds { v < length tables.now.kind.now }
+    ensures { (result ≡ price_read tables.now prices.now v) × (result ≤ weighed_most prices.now.weighting) }
 {
-    let k = clamped(0, price::KIND_MOST, kind[v] as u32);
-    let f = clamped(0, price::FACTOR_MOST, factor);
-    let o = clamped(0, price::OTHERS_MOST, others[v] as u32);
-    let c = clamped(1, price::CAPACITY_MOST, capacity[v] as u32);
-    let h = clamped(1, weighing::history_bound(weighting), history[v]);
-    let d = clamped(
-        0,
-        price::DELAY_MOST,
-        weighing::delay_at(weighting, delay, v),
-    );
-    let PriceAnswer::Price(p) = price::weighed_price(clamped_weighting(weighting), k, f, o, c, h, d)
-    else {
-        return 0;
+    let weighting = prices.weighting;
+    let numbers = Numbers {
+        kind: (tables.kind[v] as u32).min(price::KIND_MOST),
+        factor: prices.factor.min(price::FACTOR_MOST),
+        others: (prices.others[v] as u32).min(price::OTHERS_MOST),
+        capacity: (tables.capacity[v] as u32).clamp(1, price::CAPACITY_MOST),
+        history: prices.history[v].clamp(1, weighing::history_bound(weighting)),
     };
-    p
+    let delay = weighing::delay_at(weighting, prices.delay, v).min(price::DELAY_MOST);
+    price::weighed_price(clamped_weighting(weighting), numbers, delay).unwrap_or(0)
 }
 
 // The least label of a goal, after a node that had `old` got label d.
 fn met(old: u64, d: u64, best: u64) -> u64
     ensures { GoalMet old d best result }
 {
-    if old != GOAL {
-        return best;
-    }
-    if d < best { d } else { best }
+    if old == GOAL { d.min(best) } else { best }
 }
 
 // Node u comes before v.
@@ -108,92 +78,76 @@ pub fn row_place(first_edge: &[u32], edges: usize, u: usize) -> usize
     requires { u < length first_edge.now }
     ensures { result ≡ min (get_or first_edge.now u 0) edges }
 {
-    let e = first_edge[u] as usize;
-    if edges < e { edges } else { e }
+    (first_edge[u] as usize).min(edges)
 }
 
 // An edge to w matters to paths to goals: w is a node with edges, or a goal without a label.
-fn matters(first_edge: &[u32], work: &[u64], n: usize, w: usize) -> bool
-    requires { (n ≤ nodes_most) × (length first_edge.now ≡ n + 1) × (n ≤ length work.now) }
-    ensures { result ≡ false → w < n → DeadEnd first_edge.now work.now w }
+fn matters(tables: &Tables, work: &[u64], w: usize) -> bool
+    requires { let n = length tables.now.kind.now in
+        (n ≤ nodes_most) × (length tables.now.first_edge.now ≡ n + 1) × (n ≤ length work.now) }
+    ensures { result ≡ false → w < length tables.now.kind.now → DeadEnd tables.now.first_edge.now work.now w }
 {
-    if n <= w {
-        return false;
-    }
-    if first_edge[w] < first_edge[w + 1] {
-        return true;
-    }
-    work[w] == GOAL
+    w < tables.kind.len()
+        && (tables.first_edge[w] < tables.first_edge[w + 1] || work[w] == GOAL)
 }
 
 // Some edge of v, as far as table 4 has its row, matters.
-fn leads_on(first_edge: &[u32], edge_target: &[u16], work: &[u64], n: usize, v: usize) -> bool
-    requires { RowReady n first_edge.now work.now v }
-    ensures { result ≡ false → LeadsNowhere n first_edge.now edge_target.now work.now v }
+fn leads_on(tables: &Tables, work: &[u64], v: usize) -> bool
+    requires { RowReady (length tables.now.kind.now) tables.now.first_edge.now work.now v }
+    ensures { let t = tables.now in
+        (result ≡ false → LeadsNowhere (length t.kind.now) t.first_edge.now t.edge_target.now work.now v) }
 {
-    let to = row_place(first_edge, edge_target.len(), v + 1);
-    let mut e = first_edge[v] as usize;
-    while e < to {
-        let w = edge_target[e] as usize;
-        if matters(first_edge, work, n, w) {
+    let to = row_place(tables.first_edge, tables.edge_target.len(), v + 1);
+    for e in tables.first_edge[v] as usize..to {
+        if matters(tables, work, tables.edge_target[e] as usize) {
             return true;
         }
-        e += 1;
     }
     false
 }
 
 // Node v, which has its label, has something to spread: where labels are to reach goals alone, an edge that matters, else any edge.
-fn has_to_wait(
-    first_edge: &[u32],
-    edge_target: &[u16],
-    goals: bool,
-    work: &[u64],
-    n: usize,
-    v: usize,
-) -> bool
-    requires { RowReady n first_edge.now work.now v }
-    ensures { result ≡ false → Idle n first_edge.now edge_target.now goals work.now v }
+fn has_to_wait(tables: &Tables, goals: bool, work: &[u64], v: usize) -> bool
+    requires { RowReady (length tables.now.kind.now) tables.now.first_edge.now work.now v }
+    ensures { let t = tables.now in
+        (result ≡ false → Idle (length t.kind.now) t.first_edge.now t.edge_target.now goals work.now v) }
 {
     if goals {
-        return leads_on(first_edge, edge_target, work, n, v);
+        leads_on(tables, work, v)
+    } else {
+        tables.first_edge[v] < tables.first_edge[v + 1]
     }
-    first_edge[v] < first_edge[v + 1]
 }
 
 // Node v gets its label, d, from u. It waits, unless it has nothing to spread.
 fn label(
-    first_edge: &[u32],
-    edge_target: &[u16],
+    tables: &Tables,
     goals: bool,
     work: &mut [u64],
-    n: usize,
     u: usize,
     v: usize,
     d: u64,
     r: Reach,
 ) -> Reach
-    requires { LabelReady n first_edge.now work.old r.count u v }
-    ensures labelled { let firsts = first_edge.now in
-        let targets = edge_target.now in
-        Labelled n firsts targets goals u v d work.old work.new r.count result.count }
+    requires { LabelReady (length tables.now.kind.now) tables.now.first_edge.now work.old r.count u v }
+    ensures labelled { let t = tables.now in
+        let n = length t.kind.now in
+        Labelled n t.first_edge.now t.edge_target.now goals u v d work.old work.new r.count result.count }
     ensures goal_met { GoalMet (label_at work.old v) d r.best result.best }
 {
+    let n = tables.kind.len();
     let best = met(work[v], d, r.best);
     work[v] = d;
     set_from(work, n, u, v);
     let count = r.count;
-    if has_to_wait(first_edge, edge_target, goals, work, n, v) {
+    if has_to_wait(tables, goals, work, v) {
         heap::add(work, n, count, v, d);
         return Reach {
-            best: best,
+            best,
             count: count + 1,
         };
     }
-    Reach {
-        best: best,
-        count: count,
-    }
+    Reach { best, count }
 }
 
 // Node v has its label already, from its predecessor; u, of label d, takes that one's place where it is as near and lower. That it is as
@@ -203,24 +157,15 @@ fn lower(work: &mut [u64], n: usize, u: usize, v: usize, d: u64)
     ensures { Lowered n u v d work.old work.new }
 {
     let w = (work[n + v] % heap::UPPER) as usize;
-    if work[w] == d {
-        if u < w {
-            set_from(work, n, u, v);
-        }
+    if work[w] == d && u < w {
+        set_from(work, n, u, v);
     }
 }
 
 // Looks at the edge from u, of label d, to v.
 fn relax(
-    kind: &[u8],
-    capacity: &[u8],
-    history: &[u32],
-    others: &[u16],
-    weighting: Weighting,
-    delay: &[u16],
-    factor: u32,
-    first_edge: &[u32],
-    edge_target: &[u16],
+    tables: &Tables,
+    prices: &Prices,
     goals: bool,
     work: &mut [u64],
     u: usize,
@@ -228,23 +173,21 @@ fn relax(
     d: u64,
     r: Reach,
 ) -> Reach
-    requires { let c = weighed_congestion weighting delay.now factor history.now others.now in
-        RelaxReady kind.now capacity.now c first_edge.now work.old r.count u v d }
-    ensures { let c = weighed_congestion weighting delay.now factor history.now others.now in
-        let price = clamped_price kind.now capacity.now c in
-        let n = length kind.now in
-        let firsts = first_edge.now in
-        let targets = edge_target.now in
-        EdgeRelaxed n firsts targets goals price u v d work.old work.new r.count result.count r.best result.best }
+    requires { let t = tables.now in
+        RelaxReady t.kind.now t.capacity.now (congestion_in prices.now) t.first_edge.now work.old r.count u v d }
+    ensures { let price = price_read tables.now prices.now in
+        let t = tables.now in
+        let n = length t.kind.now in
+        EdgeRelaxed n t.first_edge.now t.edge_target.now goals price u v d work.old work.new r.count result.count r.best result.best }
 {
-    let n = kind.len();
+    let n = tables.kind.len();
     if n <= v {
         return r;
     }
     let old = work[v];
     if GOAL <= old {
-        let p = clamped_price(kind, capacity, history, others, weighting, delay, factor, v);
-        return label(first_edge, edge_target, goals, work, n, u, v, d + p, r);
+        let p = clamped_price(tables, prices, v);
+        return label(tables, goals, work, u, v, d + p, r);
     }
     if 0 < old {
         lower(work, n, u, v, d);
@@ -254,54 +197,27 @@ fn relax(
 
 // Settles node u: looks at every edge of its row, as far as table 4 has it.
 fn settle(
-    kind: &[u8],
-    capacity: &[u8],
-    history: &[u32],
-    others: &[u16],
-    weighting: Weighting,
-    delay: &[u16],
-    factor: u32,
-    first_edge: &[u32],
-    edge_target: &[u16],
+    tables: &Tables,
+    prices: &Prices,
     goals: bool,
     work: &mut [u64],
     u: usize,
     start: Reach,
 ) -> Reach
-    requires { let b = graph_of kind.now first_edge.now edge_target.now in
-        let c = weighed_congestion weighting delay.now factor history.now others.now in
-        let price = clamped_price kind.now capacity.now c in
-        ListsLong kind.now capacity.now c × SettleReady b price goals work.old start.count u }
-    ensures { let b = graph_of kind.now first_edge.now edge_target.now in
-        let c = weighed_congestion weighting delay.now factor history.now others.now in
-        let price = clamped_price kind.now capacity.now c in
+    requires { let b = graph_in tables.now in
+        let price = price_read tables.now prices.now in
+        Long tables.now prices.now × SettleReady b price goals work.old start.count u }
+    ensures { let b = graph_in tables.now in
+        let price = price_read tables.now prices.now in
         let level = label_at work.old u in
         NodeSettled b price goals level u work.old work.new start.count result.count start.best result.best }
 {
     let d = work[u];
-    let to = row_place(first_edge, edge_target.len(), u + 1);
-    let mut e = row_place(first_edge, edge_target.len(), u);
+    let to = row_place(tables.first_edge, tables.edge_target.len(), u + 1);
     let mut r = start;
-    while e < to {
-        let v = edge_target[e] as usize;
-        r = relax(
-            kind,
-            capacity,
-            history,
-            others,
-            weighting,
-            delay,
-            factor,
-            first_edge,
-            edge_target,
-            goals,
-            work,
-            u,
-            v,
-            d,
-            r,
-        );
-        e += 1;
+    for e in row_place(tables.first_edge, tables.edge_target.len(), u)..to {
+        let v = tables.edge_target[e] as usize;
+        r = relax(tables, prices, goals, work, u, v, d, r);
     }
     r
 }
@@ -310,30 +226,21 @@ fn settle(
 // label of that goal, FAR where no goal has one. `last_step` is at most the price of every goal; `waits` nodes wait, the tree's.
 // With `goals` only paths to goals count: nodes that lead to dead ends alone don't wait, and a dead end's label may be too high or missing.
 pub fn settle_all(
-    kind: &[u8],
-    capacity: &[u8],
-    history: &[u32],
-    others: &[u16],
-    weighting: Weighting,
-    delay: &[u16],
-    factor: u32,
-    first_edge: &[u32],
-    edge_target: &[u16],
+    tables: &Tables,
+    prices: &Prices,
     goals: bool,
     work: &mut [u64],
     waits: usize,
     last_step: u64,
 ) -> u64
-    requires { let b = graph_of kind.now first_edge.now edge_target.now in
-        let c = weighed_congestion weighting delay.now factor history.now others.now in
-        let price = clamped_price kind.now capacity.now c in
-        ListsLong kind.now capacity.now c × RunReady b price goals work.old waits last_step }
-    ensures { let b = graph_of kind.now first_edge.now edge_target.now in
-        let c = weighed_congestion weighting delay.now factor history.now others.now in
-        let price = clamped_price kind.now capacity.now c in
+    requires { let b = graph_in tables.now in
+        let price = price_read tables.now prices.now in
+        Long tables.now prices.now × RunReady b price goals work.old waits last_step }
+    ensures { let b = graph_in tables.now in
+        let price = price_read tables.now prices.now in
         SpreadStopped b price goals last_step work.old work.new result }
 {
-    let n = kind.len();
+    let n = tables.kind.len();
     let mut r = Reach {
         best: FAR,
         count: waits,
@@ -347,15 +254,8 @@ pub fn settle_all(
         heap::take(work, n, rest);
         let best = r.best;
         r = settle(
-            kind,
-            capacity,
-            history,
-            others,
-            weighting,
-            delay,
-            factor,
-            first_edge,
-            edge_target,
+            tables,
+            prices,
             goals,
             work,
             u,

@@ -3,20 +3,52 @@
 
 ghost use Rattle.std.specs.Prelude.{List, [], ◌≡◌, ℕ, length};
 ghost use Rattle.price.specs.Test.{both};
-ghost use Rattle.search.specs.Block.{block_of, graph_of};
+ghost use Rattle.search.specs.Block.{nodes};
+ghost use Rattle.search.specs.Lent.{block_in, congestion_in, back_in, tested};
 ghost use Rattle.search.specs.Turn.{Congestion, weighed_congestion, congestion_of, timed_congestion, price_at};
 ghost use Rattle.search.specs.Replies.{search_reply_of, search_reply, timed_search_reply, LeavesLeastCosts};
-ghost use Rattle.search.specs.Replies.{refusal_of, faulty_delays, faulty_with_delays, faulty_with_sinks, path_due};
+ghost use Rattle.search.specs.Replies.{refusal_of, search_refusal, faulty_delays, faulty_with_delays, faulty_with_sinks, path_due};
 ghost use Rattle.search.specs.Replies.{timed_fitting, fitting_lengths};
-ghost use Rattle.search.specs.Replies.{path_refusal, path_numbers, path_reply_of, path_reply, JoinsCheapest};
+ghost use Rattle.search.specs.Replies.{path_reply_of, path_reply, JoinsCheapest};
 ghost use Rattle.search.specs.ByTarget.{ListsBack};
-ghost use Rattle.search.specs.AimedReplies.{aimed_path_reply_of, aimed_path_reply};
+ghost use Rattle.search.specs.AimedReplies.{joins_of, aimed_path_reply_of, aimed_path_reply};
 
-// What a call of the search answers: the distances stand in the work slice, or one of 01's refusals.
+// Tables 1 to 4, the block: its nodes' kinds and capacities, where each node's row of edges begins, and the edges' targets.
 #[derive(Clone, Copy)]
-pub enum SearchAnswer {
-    // Nothing is refused: the distances stand at the beginning of the work slice.
-    Done,
+pub struct Tables<'a> {
+    pub kind: &'a [u8],
+    pub capacity: &'a [u8],
+    pub first_edge: &'a [u32],
+    pub edge_target: &'a [u16],
+}
+
+// The same edges by their target: where each node's row begins, and the edges' sources.
+#[derive(Clone, Copy)]
+pub struct Back<'a> {
+    pub first_back: &'a [u32],
+    pub back_source: &'a [u16],
+}
+
+// What prices a turn beside the block: how delay is weighed and each node's delay, the factor, and of each node its history and how many
+// other nets have it.
+#[derive(Clone, Copy)]
+pub struct Prices<'a> {
+    pub weighting: Weighting,
+    pub delay: &'a [u16],
+    pub factor: u32,
+    pub history: &'a [u32],
+    pub others: &'a [u16],
+}
+
+// 5: this table breaks its rule.
+#[derive(Clone, Copy, Debug, PartialEq, Eq)]
+pub struct BadTable {
+    pub table: u32,
+}
+
+// Why a call of the search or of the cheapest path is refused.
+#[derive(Clone, Copy, Debug, PartialEq, Eq)]
+pub enum Refusal {
     // 5: this table breaks its rule.
     BadTable(u32),
     // 6: the work slice is shorter than this many entries.
@@ -27,24 +59,28 @@ pub enum SearchAnswer {
     TooLarge(u32),
 }
 
-// What a call of the cheapest path answers.
-#[derive(Clone, Copy)]
-pub enum PathAnswer {
-    // The sink at this place is joined at this cost, by a path of this many nodes at the beginning of the work slice.
-    Joins { place: u32, cost: u64, length: u32 },
-    // No unjoined sink has a path.
-    Stuck,
-    // 5, 6, 13 and 15, as for the search.
-    BadTable(u32),
-    ShortWork(u64),
-    BadNumber(u32),
-    TooLarge(u32),
+impl From<BadTable> for Refusal {
+    ghost use Rattle.search.specs.declared.Refusal.TheVariants as r;
+
+    ghost from_gives = { λ bad refusal. refusal ≡ r.BadTable bad.table };
+
+    fn from(bad: BadTable) -> Refusal {
+        Refusal::BadTable(bad.table)
+    }
 }
 
-// What a call of the cheapest path by the search that aims answers: the same, and how many nodes it expanded.
-#[derive(Clone, Copy)]
-pub struct AimedPath {
-    pub answer: PathAnswer,
+// The sink at this place of the list is joined at this cost, by a path of this many nodes at the beginning of the work slice.
+#[derive(Clone, Copy, Debug, PartialEq, Eq)]
+pub struct Joins {
+    pub place: u32,
+    pub cost: u64,
+    pub length: u32,
+}
+
+// A turn by the search that aims: the same, and how many nodes it expanded.
+#[derive(Clone, Copy, Debug, PartialEq, Eq)]
+pub struct AimedTurn {
+    pub joins: Option<Joins>,
     pub expanded: u32,
 }
 
@@ -66,150 +102,88 @@ mod aimed_turn;
 mod buckets;
 mod distances;
 mod estimate;
+mod fill;
 mod heap;
 mod labels;
 mod numbers;
 mod queue;
-mod tables;
+mod table_tests;
 mod turn;
 mod weighing;
-mod zeros;
 
 use price::Weighting;
 
-// 9 for bad delays in a timed turn, else 0.
-fn faulty_delays(weighting: Weighting, n: usize, delay: &[u16]) -> u32
-    ensures { result ≡ faulty_delays weighting n delay.now }
+// A timed turn's delays keep their rule, or table 9 is refused.
+fn faulty_delays(weighting: Weighting, n: usize, delay: &[u16]) -> Result<(), BadTable>
+    ensures { result ≡ tested (faulty_delays weighting n delay.now) }
 {
-    if weighting.timed {
-        if !tables::delays_sound(n, delay) {
-            return 9;
-        }
+    if weighting.timed && !table_tests::delays_sound(n, delay) {
+        return Err(BadTable { table: 9 });
     }
-    0
+    Ok(())
 }
 
-// The lowest of tables 1 to 4 that breaks its rule, in a timed turn else 9 for bad delays, 0 where all is sound.
-fn faulty_with_delays(
-    kind: &[u8],
-    capacity: &[u8],
-    first_edge: &[u32],
-    edge_target: &[u16],
-    weighting: Weighting,
-    delay: &[u16],
-) -> u32
-    ensures { let block = block_of kind.now capacity.now first_edge.now edge_target.now in
-        let turn : (ℕ → List ℕ → List ℕ → Congestion) = weighed_congestion weighting delay.now in
-        ((factor : ℕ) (histories others : List ℕ) → result ≡ faulty_with_delays block (turn factor histories others)) }
+// Tables 1 to 4 and in a timed turn the delays keep their rules, or the lowest table that doesn't is refused.
+fn faulty_with_delays(tables: &Tables, weighting: Weighting, delay: &[u16]) -> Result<(), BadTable>
+    ensures { let turn : (ℕ → List ℕ → List ℕ → Congestion) = weighed_congestion weighting delay.now in
+        ((factor : ℕ) (histories others : List ℕ)
+        → result ≡ tested (faulty_with_delays (block_in tables.now) (turn factor histories others))) }
 {
-    let table = tables::faulty_table(kind, capacity, first_edge, edge_target);
-    if 1 <= table {
-        return table;
-    }
-    faulty_delays(weighting, kind.len(), delay)
+    table_tests::faulty_table(tables)?;
+    faulty_delays(weighting, tables.kind.len(), delay)
 }
 
 // The search of both kinds: the tests of the tables, then the node count of a timed turn, the work slice and the numbers that price a turn;
 // where none fails the distances of all nodes from the marked ones stand at the beginning of the work slice.
 fn searched(
-    kind: &[u8],
-    capacity: &[u8],
-    first_edge: &[u32],
-    edge_target: &[u16],
-    weighting: Weighting,
-    delay: &[u16],
-    factor: u32,
+    tables: &Tables,
+    prices: &Prices,
     work: &mut [u64],
-    history: &[u32],
-    others: &[u16],
     in_tree: &[u8],
-) -> SearchAnswer
-    ensures answers { let block = block_of kind.now capacity.now first_edge.now edge_target.now in
-        let congestion = weighed_congestion weighting delay.now factor history.now others.now in
-        search_reply_of result work.new ≡ timed_search_reply block congestion in_tree.now work.old }
-    ensures distances { let block = block_of kind.now capacity.now first_edge.now edge_target.now in
-        let congestion = weighed_congestion weighting delay.now factor history.now others.now in
-        LeavesLeastCosts block (price_at block congestion) in_tree.now result work.new }
+) -> Result<(), Refusal>
+    ensures answers { let b = block_in tables.now in
+        search_reply_of result work.new ≡ timed_search_reply b (congestion_in prices.now) in_tree.now work.old }
+    ensures distances { let b = block_in tables.now in
+        LeavesLeastCosts b (price_at b (congestion_in prices.now)) in_tree.now result work.new }
 {
-    let table = faulty_with_delays(kind, capacity, first_edge, edge_target, weighting, delay);
-    match numbers::first_refusal(
-        table,
-        kind.len(),
-        weighting,
-        factor,
-        work.len(),
-        history,
-        others,
-        in_tree,
-    ) {
-        SearchAnswer::BadTable(t) => SearchAnswer::BadTable(t),
-        SearchAnswer::TooLarge(n) => SearchAnswer::TooLarge(n),
-        SearchAnswer::ShortWork(needed) => SearchAnswer::ShortWork(needed),
-        SearchAnswer::BadNumber(place) => SearchAnswer::BadNumber(place),
-        SearchAnswer::Done => {
-            distances::distances_from_tree(
-                kind,
-                capacity,
-                first_edge,
-                edge_target,
-                weighting,
-                delay,
-                factor,
-                work,
-                history,
-                others,
-                in_tree,
-            );
-            SearchAnswer::Done
-        }
-    }
+    faulty_with_delays(tables, prices.weighting, prices.delay)?;
+    numbers::first_refusal(tables.kind.len(), prices, work.len(), in_tree)?;
+    distances::distances_from_tree(tables, prices, work, in_tree);
+    Ok(())
 }
 
 // The tests of tables 1 to 4, then the work slice, then the numbers that price a turn; where none fails the distances of all nodes
 // from the marked ones stand at the beginning of the work slice.
 pub fn search(
-    kind: &[u8],
-    capacity: &[u8],
-    first_edge: &[u32],
-    edge_target: &[u16],
+    tables: &Tables,
     factor: u32,
     work: &mut [u64],
     history: &[u32],
     others: &[u16],
     in_tree: &[u8],
-) -> SearchAnswer
-    ensures answers { let block = block_of kind.now capacity.now first_edge.now edge_target.now in
+) -> Result<(), Refusal>
+    ensures answers { let congestion = congestion_of factor history.now others.now in
+        search_reply_of result work.new ≡ search_reply (block_in tables.now) congestion in_tree.now work.old }
+    ensures distances { let b = block_in tables.now in
         let congestion = congestion_of factor history.now others.now in
-        search_reply_of result work.new ≡ search_reply block congestion in_tree.now work.old }
-    ensures distances { let block = block_of kind.now capacity.now first_edge.now edge_target.now in
-        let congestion = congestion_of factor history.now others.now in
-        LeavesLeastCosts block (price_at block congestion) in_tree.now result work.new }
+        LeavesLeastCosts b (price_at b congestion) in_tree.now result work.new }
 {
-    let weighting = Weighting {
-        timed: false,
-        criticality: 0,
-    };
-    searched(
-        kind,
-        capacity,
-        first_edge,
-        edge_target,
-        weighting,
-        &edge_target[..0],
+    let prices = Prices {
+        weighting: Weighting {
+            timed: false,
+            criticality: 0,
+        },
+        delay: &[],
         factor,
-        work,
         history,
         others,
-        in_tree,
-    )
+    };
+    searched(tables, &prices, work, in_tree)
 }
 
 // The same in a timed job: table 9 is tested with tables 1 to 4, and the prices are those for a sink of this criticality.
 pub fn timed_search(
-    kind: &[u8],
-    capacity: &[u8],
-    first_edge: &[u32],
-    edge_target: &[u16],
+    tables: &Tables,
     delay: &[u16],
     factor: u32,
     criticality: u32,
@@ -217,233 +191,108 @@ pub fn timed_search(
     history: &[u32],
     others: &[u16],
     in_tree: &[u8],
-) -> SearchAnswer
-    ensures answers { let block = block_of kind.now capacity.now first_edge.now edge_target.now in
+) -> Result<(), Refusal>
+    ensures answers { let congestion = timed_congestion criticality delay.now factor history.now others.now in
+        search_reply_of result work.new ≡ timed_search_reply (block_in tables.now) congestion in_tree.now work.old }
+    ensures distances { let b = block_in tables.now in
         let congestion = timed_congestion criticality delay.now factor history.now others.now in
-        search_reply_of result work.new ≡ timed_search_reply block congestion in_tree.now work.old }
-    ensures distances { let block = block_of kind.now capacity.now first_edge.now edge_target.now in
-        let congestion = timed_congestion criticality delay.now factor history.now others.now in
-        LeavesLeastCosts block (price_at block congestion) in_tree.now result work.new }
+        LeavesLeastCosts b (price_at b congestion) in_tree.now result work.new }
 {
-    let weighting = Weighting {
-        timed: true,
-        criticality: criticality,
-    };
-    searched(
-        kind,
-        capacity,
-        first_edge,
-        edge_target,
-        weighting,
+    let prices = Prices {
+        weighting: Weighting {
+            timed: true,
+            criticality,
+        },
         delay,
         factor,
-        work,
         history,
         others,
-        in_tree,
-    )
+    };
+    searched(tables, &prices, work, in_tree)
 }
 
-// The lowest of tables 1 to 4 that breaks its rule, else 7 for a bad list of sinks, in a timed turn else 9 for bad delays, 0 where all is
-// sound.
+// Tables 1 to 4, the list of sinks and in a timed turn the delays keep their rules, or the lowest of tables 1 to 4 that doesn't is refused,
+// else 7 for the sinks, else 9 for the delays.
 fn faulty_with_sinks(
-    kind: &[u8],
-    capacity: &[u8],
-    first_edge: &[u32],
-    edge_target: &[u16],
+    tables: &Tables,
     weighting: Weighting,
     delay: &[u16],
     sinks: &[u16],
-) -> u32
-    ensures { let block = block_of kind.now capacity.now first_edge.now edge_target.now in
+) -> Result<(), BadTable>
+    ensures { let turn : (ℕ → List ℕ → List ℕ → Congestion) = weighed_congestion weighting delay.now in
         let listed = sinks.now in
-        let turn : (ℕ → List ℕ → List ℕ → Congestion) = weighed_congestion weighting delay.now in
-        ((factor : ℕ) (histories others : List ℕ) → result ≡ faulty_with_sinks block (turn factor histories others) listed) }
+        ((factor : ℕ) (histories others : List ℕ)
+        → result ≡ tested (faulty_with_sinks (block_in tables.now) (turn factor histories others) listed)) }
 {
-    let table = tables::faulty_table(kind, capacity, first_edge, edge_target);
-    if 1 <= table {
-        return table;
+    table_tests::faulty_table(tables)?;
+    if !table_tests::sink_list_sound(tables.kind.len(), sinks) {
+        return Err(BadTable { table: 7 });
     }
-    if tables::sink_list_sound(kind.len(), sinks) {
-        return faulty_delays(weighting, kind.len(), delay);
-    }
-    7
+    faulty_delays(weighting, tables.kind.len(), delay)
 }
 
 // What is refused where a length is wrong.
 fn refused(
-    kind: &[u8],
-    capacity: &[u8],
-    first_edge: &[u32],
-    edge_target: &[u16],
-    weighting: Weighting,
-    delay: &[u16],
-    factor: u32,
+    tables: &Tables,
+    prices: &Prices,
     entries: usize,
-    history: &[u32],
-    others: &[u16],
     in_tree: &[u8],
     sinks: &[u16],
-) -> PathAnswer
-    ensures { let block = block_of kind.now capacity.now first_edge.now edge_target.now in
-        let congestion = weighed_congestion weighting delay.now factor history.now others.now in
-        let table = faulty_with_sinks block congestion sinks.now in
-        let due = refusal_of table (length kind.now) congestion in_tree.now entries in
-        (path_refusal result ≡ due) × (path_numbers result ≡ []) }
+) -> Result<(), Refusal>
+    ensures { let b = block_in tables.now in
+        let congestion = congestion_in prices.now in
+        let table = faulty_with_sinks b congestion sinks.now in
+        search_refusal result ≡ refusal_of table (nodes b) congestion in_tree.now entries }
 {
-    let table = faulty_with_sinks(
-        kind,
-        capacity,
-        first_edge,
-        edge_target,
-        weighting,
-        delay,
-        sinks,
-    );
-    match numbers::first_refusal(
-        table,
-        kind.len(),
-        weighting,
-        factor,
-        entries,
-        history,
-        others,
-        in_tree,
-    ) {
-        SearchAnswer::BadTable(t) => PathAnswer::BadTable(t),
-        SearchAnswer::TooLarge(n) => PathAnswer::TooLarge(n),
-        SearchAnswer::ShortWork(needed) => PathAnswer::ShortWork(needed),
-        SearchAnswer::BadNumber(place) => PathAnswer::BadNumber(place),
-        SearchAnswer::Done => PathAnswer::Stuck,
-    }
+    faulty_with_sinks(tables, prices.weighting, prices.delay, sinks)?;
+    numbers::first_refusal(tables.kind.len(), prices, entries, in_tree)
 }
 
-// Every list has the length that its rule asks.
-fn fits(
-    n: usize,
-    capacity: usize,
-    first_edge: usize,
-    edge_target: usize,
-    work: usize,
-    history: usize,
-    others: usize,
-    in_tree: usize,
-    sinks: usize,
-) -> bool
-    ensures { result ≡ fitting_lengths n capacity first_edge edge_target work history others in_tree sinks }
+// Every list has the length that its rule asks; in a timed turn there are few enough nodes, and a delay for each.
+fn fits(tables: &Tables, prices: &Prices, entries: usize, in_tree: &[u8], sinks: &[u16]) -> bool
+    ensures { let b = block_in tables.now in
+        let c = congestion_in prices.now in
+        let marks = length in_tree.now in
+        let fit = fitting_lengths (nodes b) (length b.capacities) (length b.first_edges) (length b.edge_targets) entries
+        (length c.histories) (length c.others) marks (length sinks.now) in
+        result ≡ both fit (timed_fitting c.weighting.timed (nodes b) (length c.delays)) }
 {
-    if n < 1 {
-        return false;
-    }
-    if NODES_MOST < n {
-        return false;
-    }
-    if capacity != n {
-        return false;
-    }
-    if first_edge != n + 1 {
-        return false;
-    }
-    if EDGES_MOST < edge_target {
-        return false;
-    }
-    if work < 8 * n {
-        return false;
-    }
-    if history < n {
-        return false;
-    }
-    if others < n {
-        return false;
-    }
-    if in_tree < n {
-        return false;
-    }
-    sinks <= SINKS_MOST
+    let n = tables.kind.len();
+    1 <= n
+        && n <= NODES_MOST
+        && tables.capacity.len() == n
+        && tables.first_edge.len() == n + 1
+        && tables.edge_target.len() <= EDGES_MOST
+        && 8 * n <= entries
+        && n <= prices.history.len()
+        && n <= prices.others.len()
+        && n <= in_tree.len()
+        && sinks.len() <= SINKS_MOST
+        && (!prices.weighting.timed || (n <= TIMED_NODES_MOST && n <= prices.delay.len()))
 }
 
-// The other lengths fit, and in a timed turn there are few enough nodes and a delay for each.
-fn fits_timed(fit: bool, timed: bool, n: usize, delay: usize) -> bool
-    ensures { result ≡ both fit (timed_fitting timed n delay) }
-{
-    if !fit {
-        return false;
-    }
-    if !timed {
-        return true;
-    }
-    if TIMED_NODES_MOST < n {
-        return false;
-    }
-    n <= delay
-}
-
-// One turn: the cheapest path from the marked nodes to the nearest unmarked sink. Only lengths are compared: every number is read within
-// its bounds, so that the call costs what it visits. Where a length is wrong the tests of the search and of the sinks say what is refused.
+// One turn: the cheapest path from the marked nodes to the nearest unmarked sink, none where no unmarked sink has one. Only lengths are
+// compared: every number is read within its bounds, so that the call costs what it visits. Where a length is wrong the tests of the search
+// and of the sinks say what is refused.
 pub fn cheapest_path(
-    kind: &[u8],
-    capacity: &[u8],
-    first_edge: &[u32],
-    edge_target: &[u16],
-    weighting: Weighting,
-    delay: &[u16],
-    factor: u32,
+    tables: &Tables,
+    prices: &Prices,
     work: &mut [u64],
-    history: &[u32],
-    others: &[u16],
     in_tree: &[u8],
     sinks: &[u16],
-) -> PathAnswer
-    ensures answers { let block = block_of kind.now capacity.now first_edge.now edge_target.now in
-        let congestion = weighed_congestion weighting delay.now factor history.now others.now in
-        let reply = path_reply block congestion in_tree.now sinks.now work.old in
+) -> Result<Option<Joins>, Refusal>
+    ensures answers { let reply = path_reply (block_in tables.now) (congestion_in prices.now) in_tree.now sinks.now work.old in
         path_reply_of result work.new ≡ reply }
-    ensures cheapest { let block = block_of kind.now capacity.now first_edge.now edge_target.now in
-        let congestion = weighed_congestion weighting delay.now factor history.now others.now in
-        let due = path_due block congestion in_tree.now sinks.now work.old in
-        (due ≡ [] → JoinsCheapest block (price_at block congestion) in_tree.now sinks.now result work.new) }
+    ensures cheapest { let b = block_in tables.now in
+        let congestion = congestion_in prices.now in
+        let due = path_due b congestion in_tree.now sinks.now work.old in
+        (due ≡ [] → JoinsCheapest b (price_at b congestion) in_tree.now sinks.now result work.new) }
 {
-    let fit = fits(
-        kind.len(),
-        capacity.len(),
-        first_edge.len(),
-        edge_target.len(),
-        work.len(),
-        history.len(),
-        others.len(),
-        in_tree.len(),
-        sinks.len(),
-    );
-    if fits_timed(fit, weighting.timed, kind.len(), delay.len()) {
-        return turn::join(
-            kind,
-            capacity,
-            first_edge,
-            edge_target,
-            weighting,
-            delay,
-            factor,
-            work,
-            history,
-            others,
-            in_tree,
-            sinks,
-        );
+    if fits(tables, prices, work.len(), in_tree, sinks) {
+        return Ok(turn::join(tables, prices, work, in_tree, sinks));
     }
-    refused(
-        kind,
-        capacity,
-        first_edge,
-        edge_target,
-        weighting,
-        delay,
-        factor,
-        work.len(),
-        history,
-        others,
-        in_tree,
-        sinks,
-    )
+    refused(tables, prices, work.len(), in_tree, sinks)?;
+    Ok(None)
 }
 
 // One turn by the search that aims: the same path as the cheapest path's, found by expanding fewer nodes, and how many these are. The
@@ -451,86 +300,34 @@ pub fn cheapest_path(
 // estimates go by the second alone. As for the cheapest path only lengths are compared and every number is read within its bounds. Where a
 // length is wrong the tests of the search and of the sinks say what is refused; a wrong one of the second table 3 counts as table 3's.
 pub fn aimed_path(
-    kind: &[u8],
-    capacity: &[u8],
-    first_edge: &[u32],
-    edge_target: &[u16],
-    first_back: &[u32],
-    back_source: &[u16],
-    weighting: Weighting,
-    delay: &[u16],
-    factor: u32,
+    tables: &Tables,
+    back: &Back,
+    prices: &Prices,
     work: &mut [u64],
-    history: &[u32],
-    others: &[u16],
     in_tree: &[u8],
     sinks: &[u16],
-) -> AimedPath
-    ensures answers { let kinds = kind.now in
-        let block = block_of kinds capacity.now first_edge.now edge_target.now in
-        let back = graph_of kinds first_back.now back_source.now in
-        let congestion = weighed_congestion weighting delay.now factor history.now others.now in
-        let reply = aimed_path_reply block back congestion in_tree.now sinks.now work.old in
+) -> Result<AimedTurn, Refusal>
+    ensures answers { let b = block_in tables.now in
+        let r = back_in tables.now.kind.now back.now in
+        let reply = aimed_path_reply b r (congestion_in prices.now) in_tree.now sinks.now work.old in
         aimed_path_reply_of result work.new ≡ reply }
-    ensures cheapest { let kinds = kind.now in
-        let block = block_of kinds capacity.now first_edge.now edge_target.now in
-        let back = graph_of kinds first_back.now back_source.now in
-        let congestion = weighed_congestion weighting delay.now factor history.now others.now in
+    ensures cheapest { let b = block_in tables.now in
+        let r = back_in tables.now.kind.now back.now in
+        let congestion = congestion_in prices.now in
         let marks = in_tree.now in
-        let list = sinks.now in
-        let due = path_due block congestion marks list work.old in
-        (due ≡ [] → ListsBack block back → JoinsCheapest block (price_at block congestion) marks list result.answer work.new) }
+        let due = path_due b congestion marks sinks.now work.old in
+        let joins = joins_of result in
+        (due ≡ [] → ListsBack b r → JoinsCheapest b (price_at b congestion) marks sinks.now joins work.new) }
 {
-    let fit = fits(
-        kind.len(),
-        capacity.len(),
-        first_edge.len(),
-        edge_target.len(),
-        work.len(),
-        history.len(),
-        others.len(),
-        in_tree.len(),
-        sinks.len(),
-    );
-    if fits_timed(fit, weighting.timed, kind.len(), delay.len()) {
-        if first_back.len() != kind.len() + 1 {
-            return AimedPath {
-                answer: PathAnswer::BadTable(3),
-                expanded: 0,
-            };
-        }
-        return aimed_turn::join(
-            kind,
-            capacity,
-            first_edge,
-            edge_target,
-            first_back,
-            back_source,
-            weighting,
-            delay,
-            factor,
-            work,
-            history,
-            others,
-            in_tree,
-            sinks,
-        );
+    if !fits(tables, prices, work.len(), in_tree, sinks) {
+        refused(tables, prices, work.len(), in_tree, sinks)?;
+        return Ok(AimedTurn {
+            joins: None,
+            expanded: 0,
+        });
     }
-    AimedPath {
-        answer: refused(
-            kind,
-            capacity,
-            first_edge,
-            edge_target,
-            weighting,
-            delay,
-            factor,
-            work.len(),
-            history,
-            others,
-            in_tree,
-            sinks,
-        ),
-        expanded: 0,
+    if back.first_back.len() != tables.kind.len() + 1 {
+        return Err(Refusal::BadTable(3));
     }
+    Ok(aimed_turn::join(tables, back, prices, work, in_tree, sinks))
 }

@@ -1,9 +1,8 @@
 // One turn of a net: labels spread from its tree until its nearest sink is reached, and the path is read off.
 ghost use Rattle.std.specs.Prelude.{false, ◌≡◌, ◌*◌, ◌≤◌, ◌<◌, length, take};
 ghost use Rattle.price.specs.Bounds.{nodes_most};
-ghost use Rattle.search.specs.Block.{block_of};
-ghost use Rattle.search.specs.Turn.{weighed_congestion, turn};
-ghost use Rattle.search.specs.Clamped.{clamped_price, ListsLong};
+ghost use Rattle.search.specs.Lent.{block_in, congestion_in, price_read, Long};
+ghost use Rattle.search.specs.Turn.{turn};
 ghost use Rattle.search.specs.Replies.{turn_reply, path_reply_of};
 ghost use Rattle.search.specs.Layout.{SameBut};
 ghost use Rattle.search.specs.Labels.{label_at};
@@ -11,8 +10,7 @@ ghost use Rattle.search.specs.TurnWork.{Blank, Unmarked, PassedOver, NextMarked}
 ghost use Rattle.search.specs.TurnWork.{TreeMarked, GoalsMarked, LeastGoal, FirstAt, Leads, path_in, Found, Read};
 ghost use Rattle.search.specs.Priceable.{Fitted};
 
-use crate::{PathAnswer, heap, labels, zeros};
-use price::Weighting;
+use crate::{Joins, Prices, Tables, fill, heap, labels};
 
 // How many nodes are passed over at a time.
 const STRETCH: usize = 64;
@@ -20,16 +18,12 @@ const STRETCH: usize = 64;
 // Above every price.
 const ANY_PRICE_MOST: u64 = 1000000000000000000;
 
-// No node has a label. A loop of its own, which is compiled to a call that fills memory.
+// No node has a label.
 fn fill_far(work: &mut [u64], n: usize)
     requires { n ≤ length work.old }
     ensures { Blank n work.old work.new n }
 {
-    let mut v = 0;
-    while v < n {
-        work[v] = labels::FAR;
-        v += 1;
-    }
+    fill::fill(work, 0, n, labels::FAR);
 }
 
 // Some node from `from` to below `to` is in the tree. Without early exit, so that it is vector code.
@@ -38,12 +32,10 @@ fn some_marked(in_tree: &[u8], from: usize, to: usize) -> bool
     ensures { result ≡ false → Unmarked in_tree.now from to }
 {
     let mut some = false;
-    let mut v = from;
-    while v < to {
+    for v in from..to {
         if in_tree[v] == 1 {
             some = true;
         }
-        v += 1;
     }
     some
 }
@@ -68,14 +60,12 @@ pub fn next_marked(in_tree: &[u8], from: usize, n: usize) -> usize
     requires { (from ≤ n) × (n ≤ nodes_most) × (n ≤ length in_tree.now) }
     ensures { NextMarked in_tree.now from n result }
 {
-    let mut v = pass_over(in_tree, from, n);
-    while v < n {
+    for v in pass_over(in_tree, from, n)..n {
         if in_tree[v] == 1 {
             return v;
         }
-        v += 1;
     }
-    v
+    n
 }
 
 // Tree nodes have label 0 and wait, the others have none: how many wait.
@@ -100,51 +90,28 @@ fn mark_goals(sinks: &[u16], work: &mut [u64], n: usize)
     requires { (n ≤ nodes_most) × (n ≤ length work.old) }
     ensures { GoalsMarked n sinks.now work.old work.new (length sinks.now) }
 {
-    let mut i = 0;
-    while i < sinks.len() {
-        let s = sinks[i] as usize;
-        if s < n {
-            if work[s] == labels::FAR {
-                work[s] = labels::GOAL;
-            }
+    for sink in sinks {
+        let s = *sink as usize;
+        if s < n && work[s] == labels::FAR {
+            work[s] = labels::GOAL;
         }
-        i += 1;
     }
 }
 
 // At most the price of every goal. The first value is above every price.
-fn least_price(
-    kind: &[u8],
-    capacity: &[u8],
-    history: &[u32],
-    others: &[u16],
-    weighting: Weighting,
-    delay: &[u16],
-    factor: u32,
-    sinks: &[u16],
-    work: &[u64],
-) -> u64
-    requires { let c = weighed_congestion weighting delay.now factor history.now others.now in
-        ListsLong kind.now capacity.now c × (length kind.now ≤ length work.now) }
-    ensures { let c = weighed_congestion weighting delay.now factor history.now others.now in
-        let price = clamped_price kind.now capacity.now c in
+fn least_price(tables: &Tables, prices: &Prices, sinks: &[u16], work: &[u64]) -> u64
+    requires { Long tables.now prices.now × (length tables.now.kind.now ≤ length work.now) }
+    ensures { let price = price_read tables.now prices.now in
         let list = sinks.now in
-        LeastGoal (length kind.now) price list work.now (length list) result }
+        LeastGoal (length tables.now.kind.now) price list work.now (length list) result }
 {
-    let n = kind.len();
+    let n = tables.kind.len();
     let mut least = ANY_PRICE_MOST;
-    let mut i = 0;
-    while i < sinks.len() {
-        let s = sinks[i] as usize;
-        if s < n {
-            if work[s] == labels::GOAL {
-                let p = labels::clamped_price(
-                    kind, capacity, history, others, weighting, delay, factor, s,
-                );
-                least = if p < least { p } else { least };
-            }
+    for sink in sinks {
+        let s = *sink as usize;
+        if s < n && work[s] == labels::GOAL {
+            least = least.min(labels::clamped_price(tables, prices, s));
         }
-        i += 1;
     }
     least
 }
@@ -154,17 +121,13 @@ fn first_at(sinks: &[u16], work: &[u64], n: usize, d: u64) -> usize
     requires { (n ≤ nodes_most) × (n ≤ length work.now) }
     ensures { FirstAt n d sinks.now work.now result }
 {
-    let mut place = 0;
-    while place < sinks.len() {
-        let s = sinks[place] as usize;
-        if s < n {
-            if work[s] == d {
-                return place;
-            }
+    for (place, sink) in sinks.iter().enumerate() {
+        let s = *sink as usize;
+        if s < n && work[s] == d {
+            return place;
         }
-        place += 1;
     }
-    place
+    sinks.len()
 }
 
 // How many nodes the path from the tree to the sink has.
@@ -189,18 +152,15 @@ fn write_path(in_tree: &[u8], work: &mut [u64], n: usize, sink: usize, count: us
         (take count work.new ≡ path) × SameBut 0 n work.old work.new }
 {
     let mut v = sink as u64;
-    let mut i = count;
-    while 1 < i {
-        i -= 1;
-        let at = v as usize;
+    for i in (1..count).rev() {
         work[i] = v;
-        v = work[n + at] % heap::UPPER;
+        v = work[n + v as usize] % heap::UPPER;
     }
     work[0] = v;
 }
 
 // Leaves the path to the first listed node of this label at the beginning of the work slice.
-pub fn read_path(sinks: &[u16], in_tree: &[u8], work: &mut [u64], n: usize, cost: u64) -> PathAnswer
+pub fn read_path(sinks: &[u16], in_tree: &[u8], work: &mut [u64], n: usize, cost: u64) -> Joins
     requires { Found n in_tree.now sinks.now work.old cost }
     ensures { Read n in_tree.now sinks.now work.old cost result work.new }
 {
@@ -208,61 +168,37 @@ pub fn read_path(sinks: &[u16], in_tree: &[u8], work: &mut [u64], n: usize, cost
     let sink = sinks[place] as usize;
     let count = path_length(in_tree, work, n, sink);
     write_path(in_tree, work, n, sink, count);
-    zeros::clear(work, count, 3 * n);
-    PathAnswer::Joins {
+    fill::fill(work, count, 3 * n, 0);
+    Joins {
         place: place as u32,
-        cost: cost,
+        cost,
         length: count as u32,
     }
 }
 
 // One turn: joins the nearest sink that is still to be joined, where every list has its length.
 pub fn join(
-    kind: &[u8],
-    capacity: &[u8],
-    first_edge: &[u32],
-    edge_target: &[u16],
-    weighting: Weighting,
-    delay: &[u16],
-    factor: u32,
+    tables: &Tables,
+    prices: &Prices,
     work: &mut [u64],
-    history: &[u32],
-    others: &[u16],
     in_tree: &[u8],
     sinks: &[u16],
-) -> PathAnswer
-    requires { let b = block_of kind.now capacity.now first_edge.now edge_target.now in
-        Fitted b (weighed_congestion weighting delay.now factor history.now others.now) in_tree.now sinks.now work.old }
-    ensures { let b = block_of kind.now capacity.now first_edge.now edge_target.now in
-        let c = weighed_congestion weighting delay.now factor history.now others.now in
-        let price = clamped_price kind.now capacity.now c in
+) -> Option<Joins>
+    requires { let b = block_in tables.now in
+        Fitted b (congestion_in prices.now) in_tree.now sinks.now work.old }
+    ensures { let b = block_in tables.now in
+        let price = price_read tables.now prices.now in
         let made = turn b price in_tree.now sinks.now in
-        path_reply_of result work.new ≡ turn_reply (length kind.now) work.old made }
+        path_reply_of (Ok result) work.new ≡ turn_reply (length tables.now.kind.now) work.old made }
 {
-    let n = kind.len();
+    let n = tables.kind.len();
     let waits = mark_tree(in_tree, work, n);
     mark_goals(sinks, work, n);
-    let last_step = least_price(
-        kind, capacity, history, others, weighting, delay, factor, sinks, work,
-    );
-    let cost = labels::settle_all(
-        kind,
-        capacity,
-        history,
-        others,
-        weighting,
-        delay,
-        factor,
-        first_edge,
-        edge_target,
-        true,
-        work,
-        waits,
-        last_step,
-    );
+    let last_step = least_price(tables, prices, sinks, work);
+    let cost = labels::settle_all(tables, prices, true, work, waits, last_step);
     if cost == labels::FAR {
-        zeros::clear(work, 0, 3 * n);
-        return PathAnswer::Stuck;
+        fill::fill(work, 0, 3 * n, 0);
+        return None;
     }
-    read_path(sinks, in_tree, work, n, cost)
+    Some(read_path(sinks, in_tree, work, n, cost))
 }

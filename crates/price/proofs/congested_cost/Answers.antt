@@ -11,12 +11,12 @@ use Rattle.price.proofs.congested_cost.Goals as goal
 
 module _ (c : After-overuse-over) where
   is-congested :
-      c.base_cost-base.result * (100 + c.args.factor * c.overuse-over.result)
+      c.base_cost-base.result * (100 + c.args.n.factor * c.overuse-over.result)
       ≡ congested_cost
-      c.args.kind
-      c.args.factor
-      c.args.others
-      c.args.capacity
+      c.args.n.kind
+      c.args.n.factor
+      c.args.n.others
+      c.args.n.capacity
   unfolding congested_cost
   is-congested = rw (c.base_cost-base.ensures, c.overuse-over.ensures)
 

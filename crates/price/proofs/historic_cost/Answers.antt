@@ -9,8 +9,8 @@ pub overflow_mul-result : goal.overflow_mul-result
 unfolding historic_cost
 overflow_mul-result c =
     let m = historic-most c.requires in
-    rw c.congested_cost-congested.ensures (omega arith)
+    rw c.congested_cost.ensures (omega arith)
 
 pub returns : goal.returns
 unfolding historic_cost
-returns c = rw c.congested_cost-congested.ensures
+returns c = rw c.congested_cost.ensures

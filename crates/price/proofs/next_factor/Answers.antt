@@ -1,7 +1,6 @@
 -- `price::next_factor` meets its contract: each return by the law of its iteration.
 -- Assumes nothing.
 use mathlib.Core.Path.{sym, ◌∙◌}
-use native.Mathlib.Nat.{min-eq_left, min-eq_right}
 use Rattle.price.proofs.PriceLaws.{next_factor_first, next_factor_second, next_factor_later, next_factor-none, product_fits}
 use Rattle.std.proofs.Common.{rules}
 use Rattle.price.proofs.next_factor.Goals as goal
@@ -18,8 +17,5 @@ returns-then-g-eq0 c = sym (next_factor-none _ _ _ (search rules) (search rules)
 pub overflow_mul-grown : goal.overflow_mul-grown
 overflow_mul-grown c = record { fits = product_fits (search rules) (search rules) }
 
-pub returns-then-grown-most : goal.returns-then-grown-most
-returns-then-grown-most c = sym (next_factor_later _ _ _ (search rules) (search rules) ∙ min-eq_left (search rules))
-
-pub returns-else-grown-most : goal.returns-else-grown-most
-returns-else-grown-most c = sym (next_factor_later _ _ _ (search rules) (search rules) ∙ min-eq_right (search rules))
+pub returns : goal.returns
+returns c = c.min.ensures ∙ sym (next_factor_later _ _ _ (search rules) (search rules))

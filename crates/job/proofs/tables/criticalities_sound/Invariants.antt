@@ -1,4 +1,4 @@
--- `tables::criticalities_sound` meets its contract. The loop's invariant: every criticality passed keeps its bound.
+-- `table_tests::criticalities_sound` meets its contract. The loop's invariant: every criticality passed keeps its bound.
 -- Assumes nothing.
 use Prim.Native.Nat.{ℕ, ◌-◌, ◌≤◌, ◌<◌}
 use lib.ListN.{length, get_or}

@@ -1,4 +1,4 @@
--- `tables::faulty_block` meets its contract: where delay is not weighed, tables 1 to 4 alone are named.
+-- `table_tests::faulty_block` meets its contract: where delay is not weighed, tables 1 to 4 alone are named.
 -- Assumes nothing.
 use Rattle.job.proofs.NetTableLaws.{named_untimed}
 use Rattle.job.proofs.tables.faulty_block.Goals as goal

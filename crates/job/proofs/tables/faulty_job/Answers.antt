@@ -1,4 +1,4 @@
--- `tables::faulty_job` meets its contract: the block is tested first, and a sound one has few enough nodes for the nets' tests; tables 9
+-- `table_tests::faulty_job` meets its contract: the block is tested first, and a sound one has few enough nodes for the nets' tests; tables 9
 -- and 10 come last.
 -- Assumes nothing.
 use mathlib.Core.Path.{refl, sym}

@@ -1,4 +1,4 @@
--- `tables::faulty_nets` meets its contract: each return by the law of the lowest faulty table, from what the tests answered.
+-- `table_tests::faulty_nets` meets its contract: each return by the law of the lowest faulty table, from what the tests answered.
 -- Assumes nothing.
 use mathlib.Core.Bool.{not}
 use Rattle.std.proofs.Common.{ap}

@@ -1,4 +1,4 @@
--- `tables::faulty_times` meets its contract: an untimed job has neither table; of a timed one table 9 is tested first, then table 10.
+-- `table_tests::faulty_times` meets its contract: an untimed job has neither table; of a timed one table 9 is tested first, then table 10.
 -- Assumes nothing.
 use mathlib.Core.Bool.{not}
 use Rattle.std.proofs.Common.{ap}

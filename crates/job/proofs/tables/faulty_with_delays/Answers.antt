@@ -1,4 +1,4 @@
--- `tables::faulty_with_delays` meets its contract: with no sinks and one entry of work memory the cheapest path is refused, and names the faulty table where one is.
+-- `table_tests::faulty_with_delays` meets its contract: with no sinks and one entry of work memory the cheapest path is refused, and names the faulty table where one is.
 -- Assumes nothing.
 use mathlib.Core.List.{[], ◌∷◌}
 use mathlib.Core.Path.{refl}

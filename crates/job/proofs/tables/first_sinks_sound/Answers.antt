@@ -1,4 +1,4 @@
--- `tables::first_sinks_sound` meets its contract: each return by the law of the part of the rule that was tested.
+-- `table_tests::first_sinks_sound` meets its contract: each return by the law of the part of the rule that was tested.
 -- Assumes nothing.
 use mathlib.Core.Bool.{not}
 use Rattle.std.proofs.Common.{ap}

@@ -1,4 +1,4 @@
--- `tables::mark_sinks` meets its contract. The loop's invariant: the sinks passed are nodes, differ, were not marked, and now are.
+-- `table_tests::mark_sinks` meets its contract. The loop's invariant: the sinks passed are nodes, differ, were not marked, and now are.
 -- Assumes nothing.
 use mathlib.Core.Path.{sym}
 use native.Mathlib.Omega.{arith}

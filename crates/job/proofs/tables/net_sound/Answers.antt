@@ -1,4 +1,4 @@
--- `tables::net_sound` meets its contract: marks of the source alone say which sinks are sound, and the marks that were set are cleared.
+-- `table_tests::net_sound` meets its contract: marks of the source alone say which sinks are sound, and the marks that were set are cleared.
 -- Assumes nothing.
 use mathlib.Core.Bool.{not}
 use Rattle.std.proofs.Common.{ap}

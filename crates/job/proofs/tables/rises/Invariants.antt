@@ -1,4 +1,4 @@
--- `tables::rises` meets its contract. The loop's invariant: every entry passed is above the one before it.
+-- `table_tests::rises` meets its contract. The loop's invariant: every entry passed is above the one before it.
 -- Assumes nothing.
 use Prim.Native.Nat.{ℕ, ◌-◌, ◌<◌, ◌≤◌}
 use lib.ListN.{length, get_or}

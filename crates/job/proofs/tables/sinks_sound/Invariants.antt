@@ -1,4 +1,4 @@
--- `tables::sinks_sound` meets its contract. The loop's invariant: every net passed keeps the rule, and no mark is left.
+-- `table_tests::sinks_sound` meets its contract. The loop's invariant: every net passed keeps the rule, and no mark is left.
 -- Assumes nothing.
 use Prim.Native.Nat.{◌-◌}
 use lib.ListN.{length}

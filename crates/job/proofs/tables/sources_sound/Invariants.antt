@@ -1,4 +1,4 @@
--- `tables::sources_sound` meets its contract. The loop's invariant: every source passed is a node.
+-- `table_tests::sources_sound` meets its contract. The loop's invariant: every source passed is a node.
 -- Assumes nothing.
 use Prim.Native.Nat.{ℕ, ◌-◌, ◌<◌}
 use lib.ListN.{length, get_or}

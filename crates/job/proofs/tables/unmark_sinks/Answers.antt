@@ -1,4 +1,4 @@
--- `tables::unmark_sinks` meets its contract. The loop's invariant: the entries at the sinks passed are 0, the others as before.
+-- `table_tests::unmark_sinks` meets its contract. The loop's invariant: the entries at the sinks passed are 0, the others as before.
 -- Assumes nothing.
 use native.Mathlib.Omega.{arith}
 use Rattle.job.proofs.MarkLaws.{stored_none}

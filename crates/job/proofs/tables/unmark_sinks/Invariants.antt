@@ -1,4 +1,4 @@
--- `tables::unmark_sinks` meets its contract. The loop's invariant: the entries at the sinks passed are 0, the others as before.
+-- `table_tests::unmark_sinks` meets its contract. The loop's invariant: the entries at the sinks passed are 0, the others as before.
 -- Assumes nothing.
 use Prim.Native.Nat.{◌-◌}
 use lib.ListN.{length, take}

@@ -1,0 +1,53 @@
+-- `table_tests::edge_targets_sound` meets its contract. The loop's invariant: every row passed keeps its rule.
+-- That table 3 keeps its rule puts each row within table 4.
+-- Assumes nothing.
+use mathlib.Core.Bool.{not}
+use Rattle.std.proofs.Common.{ap}
+use mathlib.Core.Path.{sym}
+use Prim.Native.Nat.{◌+◌}
+use native.Mathlib.Omega.{arith}
+use Rattle.std.proofs.Common.{rules}
+use borrow.Author.Count.{below_none, below_more}
+use Rattle.search.specs.Block.{row}
+use Rattle.search.proofs.BlockLaws.{firsts-long, firsts-most}
+use Rattle.search.proofs.KeptLaws.{refused, passed}
+use Rattle.search.proofs.TableLaws.{edges_many, edges_bad, edges-all}
+use Rattle.search.proofs.table_tests.edge_targets_sound.Goals as goal
+
+pub returns-then-edge_target-gt-EDGES_MOST : goal.returns-then-edge_target-gt-EDGES_MOST
+returns-then-edge_target-gt-EDGES_MOST c = sym (edges_many _ (search rules))
+
+pub loop-u-init : goal.loop-u-init
+loop-u-init c = below_none _
+
+pub offset_bounds-first_edge-u : goal.offset_bounds-first_edge-u
+offset_bounds-first_edge-u c = omega (arith, firsts-long _ _ _ c.requires)
+
+pub bounds-first_edge-u : goal.bounds-first_edge-u
+bounds-first_edge-u c = omega (arith, firsts-long _ _ _ c.requires)
+
+pub overflow_cast-from : goal.overflow_cast-from
+overflow_cast-from c = omega (arith, c.type_inv.first_edge c.loop-u.u)
+
+pub offset_bounds-first_edge-u-in-loop-u : goal.offset_bounds-first_edge-u-in-loop-u
+offset_bounds-first_edge-u-in-loop-u c = omega (arith, firsts-long _ _ _ c.requires)
+
+pub bounds-first_edge-u-in-loop-u : goal.bounds-first_edge-u-in-loop-u
+bounds-first_edge-u-in-loop-u c = omega (arith, firsts-long _ _ _ c.requires)
+
+pub overflow_cast-to : goal.overflow_cast-to
+overflow_cast-to c = omega (arith, c.type_inv.first_edge (c.loop-u.u + 1))
+
+pub row_sound-requires : goal.row_sound-requires
+row_sound-requires c = firsts-most _ _ _ c.requires _ (omega arith)
+
+pub returns-then-not-row_sound : goal.returns-then-not-row_sound
+unfolding row
+returns-then-not-row_sound c = sym (edges_bad _ c.loop-u.u (search rules) (refused c.row_sound.ensures (ap not c.if-not-row_sound.true)))
+
+pub loop-u-preserved : goal.loop-u-preserved
+unfolding row
+loop-u-preserved c = below_more _ _ c.loop-u.invariant (passed c.row_sound.ensures (ap not c.if-not-row_sound.false))
+
+pub returns : goal.returns
+returns c = sym (edges-all _ (search rules) c.loop-u.u (search rules) c.loop-u.invariant)
