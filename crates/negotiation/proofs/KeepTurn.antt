@@ -38,8 +38,8 @@ use Rattle.negotiation.specs.Outcome.{iterations_left}
 use Rattle.negotiation.specs.Steps.{SameFrom, TurnReady, turn_count, CanTurn, Skipped, Overflows, TurnLogged, TurnDone}
 use Rattle.negotiation.specs.Kept.{Tallied}
 use Rattle.negotiation.specs.declared.tariff.Tariff.{Tariff}
-use Rattle.negotiation.specs.declared.turns.TurnMade.{TurnMade}
-use Rattle.negotiation.specs.declared.turns.TurnMade.TheVariants.{Nothing, Full, Logged}
+use Rattle.negotiation.specs.declared.turns.NoRoom.{NoRoom}
+use Rattle.std.specs.Prelude.{Option, Some, None, Result, Ok, Err}
 use Rattle.negotiation.proofs.OrderLaws.{untimed-sinks, timed_sinks, weighting_timed, criticality_low, turn-nodes}
 use Rattle.negotiation.proofs.NextTriedLaws.{part_at, tried_alike, weighting_alike}
 use Rattle.negotiation.proofs.StateLaws.{nets-factor}
@@ -406,20 +406,20 @@ module _ (j : Job) (sound : Routable j) {p : Progress} {work₀ log₀ : List �
   call_turn = keep_can j sound enough at_more lent
 
   -- what the attempt at a turn did, by its cases
-  module _ (work' log' marks' : List ℕ) (kept : SameFrom (8 * nodes j) work work') (made : TurnMade)
+  module _ (work' log' marks' : List ℕ) (kept : SameFrom (8 * nodes j) work work') (made : Result (Option Tariff) NoRoom)
       (done : TurnDone made (turn_by j i marks cs delays t history users) (count_by j i marks cs delays t history users) t i (tried_by j i marks cs) log marks log' marks') where
-    case : (r : TurnMade) → made ≡ r → TurnDone r (turn_by j i marks cs delays t history users) (count_by j i marks cs delays t history users) t i (tried_by j i marks cs) log marks log' marks'
-    case r e = subst (λ (x : TurnMade). TurnDone x (turn_by j i marks cs delays t history users) (count_by j i marks cs delays t history users) t i (tried_by j i marks cs) log marks log' marks') e done
+    case : (r : Result (Option Tariff) NoRoom) → made ≡ r → TurnDone r (turn_by j i marks cs delays t history users) (count_by j i marks cs delays t history users) t i (tried_by j i marks cs) log marks log' marks'
+    case r e = subst (λ (x : Result (Option Tariff) NoRoom). TurnDone x (turn_by j i marks cs delays t history users) (count_by j i marks cs delays t history users) t i (tried_by j i marks cs) log marks log' marks') e done
 
-    pub after_nothing : made ≡ Nothing → (t'' : Tariff) → t'' ≡ t → AtTurns j p work₀ log₀ m i (left - 1) t'' history users marks' from to dues work' log' first
+    pub after_nothing : made ≡ Ok None → (t'' : Tariff) → t'' ≡ t → AtTurns j p work₀ log₀ m i (left - 1) t'' history users marks' from to dues work' log' first
     after_nothing e t'' q =
         subst (λ (x : Tariff). AtTurns j p work₀ log₀ m i (left - 1) x history users marks' from to dues work' log' first) (sym q)
-        (inr (keep_skipped j sound enough at_more lent work' log' marks' kept (case Nothing e)))
+        (inr (keep_skipped j sound enough at_more lent work' log' marks' kept (case (Ok None) e)))
 
-    pub after-logged : (t' : Tariff) → made ≡ Logged t' → (t'' : Tariff) → t'' ≡ t' → AtTurns j p work₀ log₀ m i (left - 1) t'' history users marks' from to dues work' log' first
+    pub after-logged : (t' : Tariff) → made ≡ Ok (Some t') → (t'' : Tariff) → t'' ≡ t' → AtTurns j p work₀ log₀ m i (left - 1) t'' history users marks' from to dues work' log' first
     after-logged t' e t'' q =
         subst (λ (x : Tariff). AtTurns j p work₀ log₀ m i (left - 1) x history users marks' from to dues work' log' first) (sym q)
-        (inr (keep_logged j sound enough at_more lent work' log' marks' kept t' (case (Logged t') e)))
+        (inr (keep_logged j sound enough at_more lent work' log' marks' kept t' (case (Ok (Some t')) e)))
 
-    pub overflows : made ≡ Full → Overflows (turn_of j (congestion_for j (reached j p m i).state i) i (tree_from j i at_more.made)) t log log'
-    overflows e = subst (λ (u : Turn). Overflows u t log log') (keep_turn j sound enough at_more lent) (case Full e)
+    pub overflows : {full : NoRoom} → made ≡ Err full → Overflows (turn_of j (congestion_for j (reached j p m i).state i) i (tree_from j i at_more.made)) t log log'
+    overflows {full} e = subst (λ (u : Turn). Overflows u t log log') (keep_turn j sound enough at_more lent) (case (Err full) e)

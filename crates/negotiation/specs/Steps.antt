@@ -1,6 +1,6 @@
 -- What the private functions of the router do to its lists. Only their contracts cite this file: no caller has to believe it.
 -- Assumes nothing.
-use Rattle.std.specs.Prelude.{Bool, true, not, List, [], ◌∷◌, ◌++◌, ◌≡◌, ℕ, ◌+◌, ◌*◌, ◌-◌, ◌^◌, ◌≤◌, ◌<◌, eqb, ltb, length, get_or}
+use Rattle.std.specs.Prelude.{Option, Some, None, Result, Ok, Err, Bool, true, not, List, [], ◌∷◌, ◌++◌, ◌≡◌, ℕ, ◌+◌, ◌*◌, ◌-◌, ◌^◌, ◌≤◌, ◌<◌, eqb, ltb, length, get_or}
 use Rattle.std.specs.Prelude.{take, drop, set}
 use Rattle.std.proofs.Math.Seq.{slice}
 use Rattle.price.specs.Test.{choose, both, either}
@@ -22,10 +22,8 @@ use Rattle.negotiation.specs.Outcome.{unreachable_net, unreachable_place}
 use Rattle.negotiation.specs.TariffSteps.{logged_tariff}
 use Rattle.job.specs.declared.Terms.{Terms}
 use Rattle.negotiation.specs.declared.tariff.Tariff.{Tariff}
-use Rattle.negotiation.specs.declared.turns.TurnMade.{TurnMade}
-use Rattle.negotiation.specs.declared.turns.TurnMade.TheVariants.{Nothing, Full, Logged}
-use Rattle.negotiation.specs.declared.reach.Reach.{Reach}
-use Rattle.negotiation.specs.declared.reach.Reach.TheVariants.{All, Missing}
+use Rattle.negotiation.specs.declared.turns.NoRoom.{NoRoom}
+use Rattle.negotiation.specs.declared.reach.Missing.{Missing}
 use Rattle.negotiation.specs.Records.{record_of, words, encode, decode, path_nodes}
 use Rattle.job.specs.Steps.{AllBelow, Stored}
 
@@ -75,9 +73,9 @@ pub record TurnReady (b : Block) (c : Congestion) (marks work : List ℕ) : Type
 abbrev pub missing : Job → List ℕ
 missing j = choose (ltb (unreachable_net j) (nets j)) (unreachable_net j ∷ unreachable_place j ∷ []) []
 
-abbrev pub reach_numbers : Reach → List ℕ
-reach_numbers All = []
-reach_numbers (Missing net place) = net ∷ place ∷ []
+abbrev pub reach_numbers : Option Missing → List ℕ
+reach_numbers None = []
+reach_numbers (Some m) = m.net ∷ m.place ∷ []
 
 -- tables 2, 9 and 10 and terms with which a job of these tables can be routed
 pub record RoutableWith (kinds first_edges edge_targets sources first_sinks sinks : List ℕ) : Type 0 where
@@ -89,7 +87,7 @@ pub record RoutableWith (kinds first_edges edge_targets sources first_sinks sink
 
 -- the test answers for every tables 2, 9 and 10 and terms with which a job of these tables can be routed: whether a path is there depends
 -- on none of them
-abbrev pub FirstMissing : (kinds first_edges edge_targets sources first_sinks sinks : List ℕ) → Reach → Type 0
+abbrev pub FirstMissing : (kinds first_edges edge_targets sources first_sinks sinks : List ℕ) → Option Missing → Type 0
 FirstMissing kinds first_edges edge_targets sources first_sinks sinks found =
     (capacities delays criticalities : List ℕ) (terms : Terms)
     → Routable (job_of kinds capacities first_edges edge_targets sources first_sinks sinks delays criticalities terms)
@@ -240,10 +238,10 @@ pub record TurnLogged (t : Turn) (expanded : ℕ) (tariff : Tariff) (net : ℕ) 
   pub tariff_is : tariff' ≡ logged_tariff tariff (6 + length path) expanded
 
 -- what a turn did, by cases
-abbrev pub TurnDone : (r : TurnMade) (t : Turn) (expanded : ℕ) (tariff : Tariff) (net : ℕ) (sinks log marks log' marks' : List ℕ) → Type 0
-TurnDone Nothing t expanded tariff net sinks log marks log' marks' = Skipped t log marks log' marks'
-TurnDone Full t expanded tariff net sinks log marks log' marks' = Overflows t tariff log log'
-TurnDone (Logged tariff') t expanded tariff net sinks log marks log' marks' =
+abbrev pub TurnDone : (r : Result (Option Tariff) NoRoom) (t : Turn) (expanded : ℕ) (tariff : Tariff) (net : ℕ) (sinks log marks log' marks' : List ℕ) → Type 0
+TurnDone (Ok None) t expanded tariff net sinks log marks log' marks' = Skipped t log marks log' marks'
+TurnDone (Err full) t expanded tariff net sinks log marks log' marks' = Overflows t tariff log log'
+TurnDone (Ok (Some tariff')) t expanded tariff net sinks log marks log' marks' =
     TurnLogged t expanded tariff net sinks log marks tariff' log' marks'
 
 -- what the search answers where nothing is refused: the turn, whose path stands at the beginning of the work slice; past 8 × nodes entries

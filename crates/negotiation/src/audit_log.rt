@@ -8,8 +8,8 @@ ghost use Rattle.negotiation.specs.Resume.{replay_by};
 ghost use Rattle.negotiation.specs.Audit.{audit_reply_of, refused_audit, audited_reply};
 ghost use Rattle.negotiation.specs.AuditSteps.{refused_audit_answer, told_answer, audit_answer};
 
-use crate::reach::Reach;
-use crate::take_up::{Taken, Told};
+use crate::reach::Missing;
+use crate::take_up::{Stopped, Told};
 use crate::tariff::Tariff;
 use crate::{AuditAnswer, Outcome, reach, take_up, turns};
 use job::{NETS_MOST, Terms};
@@ -20,7 +20,7 @@ pub fn refused(outcome: Outcome) -> AuditAnswer
     ensures { result ≡ refused_audit_answer outcome }
 {
     AuditAnswer {
-        outcome: outcome,
+        outcome,
         turns: 0,
         whole: 0,
         over: 0,
@@ -32,7 +32,7 @@ fn told(outcome: Outcome, at: Told) -> AuditAnswer
     ensures { result ≡ told_answer outcome at }
 {
     AuditAnswer {
-        outcome: outcome,
+        outcome,
         turns: at.turns,
         whole: at.whole,
         over: at.over,
@@ -40,18 +40,18 @@ fn told(outcome: Outcome, at: Told) -> AuditAnswer
 }
 
 // The answer by what the log came to.
-fn answer(taken: Taken) -> AuditAnswer
+fn answer(taken: Result<Tariff, Stopped>) -> AuditAnswer
     ensures { result ≡ audit_answer taken }
 {
     match taken {
-        Taken::On(t) => refused(Outcome::Diverges(t.words as u64)),
-        Taken::Off(word) => refused(Outcome::Diverges(word as u64)),
-        Taken::Ends(at) => told(Outcome::Accepted, at),
-        Taken::NotCheapest { at, cost, least } => told(
+        Ok(t) => refused(Outcome::Diverges(t.words as u64)),
+        Err(Stopped::Off(word)) => refused(Outcome::Diverges(word as u64)),
+        Err(Stopped::Ends(at)) => told(Outcome::Accepted, at),
+        Err(Stopped::NotCheapest { at, cost, least }) => told(
             Outcome::NotCheapest {
                 word: at.words as u64,
-                cost: cost,
-                least: least,
+                cost,
+                least,
             },
             at,
         ),
@@ -216,14 +216,11 @@ pub fn audit_joined(
         sink,
         work,
     ) {
-        Reach::Missing { net, place } => {
+        Some(Missing { net, place }) => {
             turns::clear(work, 8 * kind.len());
-            refused(Outcome::Unreachable {
-                net: net,
-                place: place,
-            })
+            refused(Outcome::Unreachable { net, place })
         }
-        Reach::All => audit_lists(
+        None => audit_lists(
             kind,
             capacity,
             first_edge,

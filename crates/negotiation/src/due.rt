@@ -27,13 +27,11 @@ fn path_crowded(log: &[u32], from: usize, to: usize, capacity: &[u8], users: &[u
     requires all_below { AllBelow (length users.now) (slice from to log.now) }
     ensures { result ≡ some_over capacity.now users.now (slice from to log.now) }
 {
-    let mut k = from;
-    while k < to {
+    for k in from..to {
         let v = log[k] as usize;
         if (capacity[v] as u16) < users[v] {
             return true;
         }
-        k += 1;
     }
     false
 }
@@ -109,11 +107,9 @@ pub fn mark_due(
         due.new ≡ up_to mark (length due.old) }
 {
     let all = all_due(terms, tariff.iteration);
-    let mut net = 0;
-    while net < due.len() {
+    for net in 0..due.len() {
         due[net] = due_mark(
             all, capacity, first_sink, log, tree_from, tree_to, users, net,
         );
-        net += 1;
     }
 }

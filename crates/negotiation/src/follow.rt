@@ -21,26 +21,18 @@ use search::PathAnswer;
 // 2^64 − 1, which no cost reaches.
 const FAR: u64 = 18446744073709551615;
 
-// What a pass over a path gives.
-#[derive(Clone, Copy)]
-pub enum PathCost {
-    Cost(u64),
-    Strays,
-}
-
 // There is an edge from node u to v.
 fn has_edge(kind: &[u8], first_edge: &[u32], edge_target: &[u16], u: usize, v: usize) -> bool
     requires { Graph (graph_of kind.now first_edge.now edge_target.now) × (u < length kind.now) }
     ensures { let graph = graph_of kind.now first_edge.now edge_target.now in
         result ≡ has_edge graph u v }
 {
+    let from = first_edge[u] as usize;
     let to = first_edge[u + 1] as usize;
-    let mut e = first_edge[u] as usize;
-    while e < to {
+    for e in from..to {
         if edge_target[e] as usize == v {
             return true;
         }
-        e += 1;
     }
     false
 }
@@ -115,8 +107,8 @@ fn step_passes(
     goals[v] == last
 }
 
-// The cost of the path in the log from `from` to below `to`, whose nodes are marked. It strays unless its first node alone has a mark and
-// each step passes; then marks may be left behind.
+// The cost of the path in the log from `from` to below `to`, whose nodes are marked. None where it strays: its first node alone has a mark,
+// and each step passes, or else marks may be left behind.
 fn path_cost(
     kind: &[u8],
     capacity: &[u8],
@@ -132,7 +124,7 @@ fn path_cost(
     log: &[u32],
     from: usize,
     to: usize,
-) -> PathCost
+) -> Option<u64>
     requires { let block = block_of kind.now capacity.now first_edge.now edge_target.now in
         let congestion = weighed_congestion weighting delay.now factor history.now users.now in
         PassReady block congestion goals.now in_tree.old log.now from to }
@@ -144,25 +136,23 @@ fn path_cost(
 {
     let mut u = log[from] as usize;
     if kind.len() <= u {
-        return PathCost::Strays;
+        return None;
     }
     if in_tree[u] != 1 {
-        return PathCost::Strays;
+        return None;
     }
     let mut cost: u64 = 0;
-    let mut k = from + 1;
-    while k < to {
+    for k in from + 1..to {
         let v = log[k] as usize;
         let last = last_mark(k + 1, to);
         if !step_passes(kind, first_edge, edge_target, goals, in_tree, u, v, last) {
-            return PathCost::Strays;
+            return None;
         }
         cost += node_price(kind, capacity, history, users, weighting, delay, factor, v);
         in_tree[v] = 1;
         u = v;
-        k += 1;
     }
-    PathCost::Cost(cost)
+    Some(cost)
 }
 
 // The words of a cost: its low and its high half stand in the record at `at`.
@@ -203,7 +193,7 @@ fn frame_follows(log: &[u32], at: usize, iteration: u32, net: u32, nodes: usize)
     log[at + 5 + count] == log[at + 2]
 }
 
-// The words of the record at the tariff's place, 0 where it doesn't follow; its path is marked.
+// The words of the record at the tariff's place, none where it doesn't follow; its path is marked.
 pub fn follow_turn(
     kind: &[u8],
     capacity: &[u8],
@@ -218,7 +208,7 @@ pub fn follow_turn(
     goals: &[u8],
     in_tree: &mut [u8],
     log: &[u32],
-) -> usize
+) -> Option<usize>
     requires { let block = block_of kind.now capacity.now first_edge.now edge_target.now in
         let congestion = weighed_congestion weighting delay.now tariff.factor history.now users.now in
         RecordReady block congestion goals.now in_tree.old log.now tariff.words }
@@ -226,17 +216,17 @@ pub fn follow_turn(
         let congestion = weighed_congestion weighting delay.now tariff.factor history.now users.now in
         let ws = drop tariff.words log.now in
         let passes = turn_passes block (price_at block congestion) goals.now in_tree.old tariff.iteration net ws in
-        result ≡ choose passes (6 + get_or ws 5 0) 0 }
+        result ≡ choose passes (Some (6 + get_or ws 5 0)) None }
     ensures stored { let ws = drop tariff.words log.now in
-        ((result ≡ 0 → ⊥) → Stored 1 (record_path ws) in_tree.old in_tree.new) }
+        ((result ≡ None → ⊥) → Stored 1 (record_path ws) in_tree.old in_tree.new) }
 {
     let at = tariff.words;
     if !frame_follows(log, at, tariff.iteration, net, kind.len()) {
-        return 0;
+        return None;
     }
     let to = at + 6 + log[at + 5] as usize;
     let factor = tariff.factor;
-    match path_cost(
+    let cost = path_cost(
         kind,
         capacity,
         first_edge,
@@ -251,14 +241,11 @@ pub fn follow_turn(
         log,
         at + 6,
         to,
-    ) {
-        PathCost::Strays => 0,
-        PathCost::Cost(cost) => {
-            if !cost_is(log, at, cost) {
-                return 0;
-            }
-            to - at
-        }
+    )?;
+    if cost_is(log, at, cost) {
+        Some(to - at)
+    } else {
+        None
     }
 }
 

@@ -27,15 +27,13 @@ fn take_listed(
         seen.new places.new result }
 {
     let mut count = start;
-    let mut p = from;
-    while p < to {
+    for p in from..to {
         let s = sink[p] as usize;
         if seen[s] != stamp {
             seen[s] = stamp;
             places[count] = p as u16;
             count += 1;
         }
-        p += 1;
     }
     count
 }
@@ -88,10 +86,8 @@ fn join_one(
         return start;
     }
     let mut count = start;
-    let mut k = net;
-    while k < source.len() {
+    for k in net..source.len() {
         count = take_net(source, first_sink, sink, net, k, seen, places, count);
-        k += 1;
     }
     count
 }
@@ -111,13 +107,11 @@ fn join_nets(
 {
     let mut seen = [0u16; NODES_MOST];
     let mut count = 0;
-    let mut net = 0;
-    while net < source.len() {
+    for net in 0..source.len() {
         firsts[net] = count as u32;
         count = join_one(source, first_sink, sink, net, &mut seen, places, count);
-        net += 1;
     }
-    firsts[net] = count as u32;
+    firsts[source.len()] = count as u32;
     count
 }
 
@@ -127,11 +121,9 @@ fn gather(table: &[u16], places: &[u16], count: usize, entries: &mut [u16])
     requires all_below { AllBelow (length table.now) (take count places.now) }
     ensures { take count entries.new ≡ entries_at table.now (take count places.now) }
 {
-    let mut k = 0;
-    while k < count {
+    for k in 0..count {
         let p = places[k] as usize;
         entries[k] = table[p];
-        k += 1;
     }
 }
 
@@ -141,11 +133,9 @@ fn gather_bytes(table: &[u8], places: &[u16], count: usize, entries: &mut [u8])
     requires all_below { AllBelow (length table.now) (take count places.now) }
     ensures { take count entries.new ≡ entries_at table.now (take count places.now) }
 {
-    let mut k = 0;
-    while k < count {
+    for k in 0..count {
         let p = places[k] as usize;
         entries[k] = table[p];
-        k += 1;
     }
 }
 

@@ -5,7 +5,7 @@ ghost use Rattle.std.specs.Prelude.{[], ◌≡◌, ◌*◌, ◌≤◌, length, t
 ghost use Rattle.job.specs.Job.{job_of, nodes};
 ghost use Rattle.negotiation.specs.Routable.{Routable};
 ghost use Rattle.negotiation.specs.Records.{decode};
-ghost use Rattle.negotiation.specs.Outcome.{route_refusal, refused_answer, route_reply_of, turns_logged, reached_reply, tested};
+ghost use Rattle.negotiation.specs.Outcome.{refused_answer, route_reply_of, turns_logged, reached_reply, tested};
 ghost use Rattle.negotiation.specs.Aimed.{expanded_after};
 ghost use Rattle.negotiation.specs.Demand.{Demand3};
 ghost use Rattle.job.specs.Join.{joined};
@@ -16,7 +16,7 @@ ghost use Rattle.negotiation.specs.Audit.{audit_reply_of};
 ghost use Rattle.negotiation.specs.Audited.{Audited};
 
 // How a run or an audit ends.
-#[derive(Clone, Copy)]
+#[derive(Clone, Copy, Debug, PartialEq, Eq)]
 pub enum Outcome {
     // Nothing is over capacity; of an audit: the log is sound.
     Accepted,
@@ -40,7 +40,7 @@ pub enum Outcome {
 
 // The answer: how the run ended, beside iteration, turns made and words used; and how many nodes the search that aims expanded in the turns
 // that the call logged, 0 with the plain one.
-#[derive(Clone, Copy)]
+#[derive(Clone, Copy, Debug, PartialEq, Eq)]
 pub struct RouteAnswer {
     pub outcome: Outcome,
     pub iteration: u32,
@@ -51,21 +51,12 @@ pub struct RouteAnswer {
 
 // The answer of an audit: its outcome, beside the turns before the one that it names, of a sound log all; the iterations that are whole;
 // and the nodes over capacity after the last of them. After a refusal all three are 0.
-#[derive(Clone, Copy)]
+#[derive(Clone, Copy, Debug, PartialEq, Eq)]
 pub struct AuditAnswer {
     pub outcome: Outcome,
     pub turns: u64,
     pub whole: u32,
     pub over: u32,
-}
-
-// Where a run starts.
-#[derive(Clone, Copy)]
-enum Start {
-    // With iteration 1.
-    Anew,
-    // After so many words of a lent log.
-    After(usize),
 }
 
 mod audit_log;
@@ -79,15 +70,15 @@ mod nets;
 mod order;
 mod reach;
 mod records;
-mod refusal;
+mod refusals;
 mod take_up;
 mod tariff;
 mod trees;
 mod turns;
 
 use job::{FIRST_SINKS_MOST, Terms};
-use reach::Reach;
-pub use refusal::refusal;
+use reach::Missing;
+pub use refusals::refusal;
 use search::SINKS_MOST;
 
 // The answer of a call that is refused before any turn.
@@ -95,7 +86,7 @@ fn refused(outcome: Outcome) -> RouteAnswer
     ensures { result ≡ refused_answer outcome }
 {
     RouteAnswer {
-        outcome: outcome,
+        outcome,
         iteration: 0,
         turns: 0,
         used: 0,
@@ -103,7 +94,7 @@ fn refused(outcome: Outcome) -> RouteAnswer
     }
 }
 
-// Routes a job of joined nets from a start: refusal 7, then the negotiation.
+// Routes a job of joined nets, from iteration 1 or after so many words of a lent log: refusal 7, then the negotiation.
 fn route_joined(
     kind: &[u8],
     capacity: &[u8],
@@ -115,7 +106,7 @@ fn route_joined(
     delay: &[u16],
     criticality: &[u8],
     terms: Terms,
-    start: Start,
+    start: Option<usize>,
     aimed: bool,
     work: &mut [u64],
     log: &mut [u32],
@@ -141,14 +132,11 @@ fn route_joined(
         sink,
         work,
     ) {
-        Reach::Missing { net, place } => {
+        Some(Missing { net, place }) => {
             turns::clear(work, 8 * kind.len());
-            refused(Outcome::Unreachable {
-                net: net,
-                place: place,
-            })
+            refused(Outcome::Unreachable { net, place })
         }
-        Reach::All => turns::negotiate(
+        None => turns::negotiate(
             kind,
             capacity,
             first_edge,
@@ -167,7 +155,7 @@ fn route_joined(
     }
 }
 
-// The refusal of a job given as tables with so many entries of work memory: 5, 15 or 6; `Accepted` where there is none.
+// The refusal of a job given as tables with so many entries of work memory, if any: 5, 15 or 6.
 fn refusal_of(
     kind: &[u8],
     capacity: &[u8],
@@ -180,10 +168,10 @@ fn refusal_of(
     criticality: &[u8],
     terms: Terms,
     entries: usize,
-) -> Outcome
+) -> Result<(), Outcome>
     ensures { let job = job_of kind.now capacity.now first_edge.now edge_target.now
         source.now first_sink.now sink.now delay.now criticality.now terms in
-        route_refusal result 0 0 ≡ job_refusal job entries }
+        result ≡ job_refusal job entries }
 {
     let table = job::faulty_job(
         kind,
@@ -198,22 +186,22 @@ fn refusal_of(
         terms,
     );
     if 1 <= table {
-        return Outcome::BadTable(table);
+        return Err(Outcome::BadTable(table));
     }
     if job::exceeds(kind.len(), terms) {
-        return Outcome::TooLarge {
+        return Err(Outcome::TooLarge {
             nodes: kind.len() as u32,
             limit: terms.limit,
-        };
+        });
     }
     let needed = 8 * kind.len();
     if entries < needed {
-        return Outcome::ShortWork(needed as u64);
+        return Err(Outcome::ShortWork(needed as u64));
     }
-    Outcome::Accepted
+    Ok(())
 }
 
-// Routes a job given as tables from a start: refusals 5, 15 and 6; then nets of one source are joined, and the joined
+// Routes a job given as tables, from iteration 1 or after so many words of a lent log: refusals 5, 15 and 6; then nets of one source are joined, and the joined
 // nets are routed.
 fn routed_from(
     kind: &[u8],
@@ -226,7 +214,7 @@ fn routed_from(
     delay: &[u16],
     criticality: &[u8],
     terms: Terms,
-    start: Start,
+    start: Option<usize>,
     aimed: bool,
     work: &mut [u64],
     log: &mut [u32],
@@ -240,7 +228,7 @@ fn routed_from(
         let made = turns_logged (route_reply_of result work.new log.new) in
         result.expanded ≡ expanded_after aimed (joined job) (lent_records start log.old) made }
 {
-    let refusal = refusal_of(
+    if let Err(outcome) = refusal_of(
         kind,
         capacity,
         first_edge,
@@ -252,10 +240,9 @@ fn routed_from(
         criticality,
         terms,
         work.len(),
-    );
-    let Outcome::Accepted = refusal else {
-        return refused(refusal);
-    };
+    ) {
+        return refused(outcome);
+    }
     let mut firsts = [0u32; FIRST_SINKS_MOST];
     let mut sinks = [0u16; SINKS_MOST];
     let mut criticalities = [0u8; SINKS_MOST];
@@ -324,7 +311,7 @@ pub fn route(
         delay,
         criticality,
         terms,
-        Start::Anew,
+        None,
         aimed,
         work,
         log,
@@ -368,7 +355,7 @@ pub fn resume(
         delay,
         criticality,
         terms,
-        Start::After(used as usize),
+        Some(used as usize),
         aimed,
         work,
         log,
@@ -396,7 +383,7 @@ pub fn audit(
         source.now first_sink.now sink.now delay.now criticality.now terms in
         Audited job used work.old log.now (audit_reply_of result work.new) }
 {
-    let refusal = refusal_of(
+    if let Err(outcome) = refusal_of(
         kind,
         capacity,
         first_edge,
@@ -408,10 +395,9 @@ pub fn audit(
         criticality,
         terms,
         work.len(),
-    );
-    let Outcome::Accepted = refusal else {
-        return audit_log::refused(refusal);
-    };
+    ) {
+        return audit_log::refused(outcome);
+    }
     let mut firsts = [0u32; FIRST_SINKS_MOST];
     let mut sinks = [0u16; SINKS_MOST];
     let mut criticalities = [0u8; SINKS_MOST];

@@ -25,8 +25,7 @@ fn place_due(sinks: &[u16], criticality: &[u8], in_tree: &[u8]) -> usize
     let mut due = sinks.len();
     // What a sink must have to come before the one found so far.
     let mut least: u8 = 0;
-    let mut place = 0;
-    while place < sinks.len() {
+    for place in 0..sinks.len() {
         let s = sinks[place] as usize;
         if in_tree[s] != 1 {
             if least <= criticality[place] {
@@ -34,7 +33,6 @@ fn place_due(sinks: &[u16], criticality: &[u8], in_tree: &[u8]) -> usize
                 least = criticality[place] + 1;
             }
         }
-        place += 1;
     }
     due
 }
@@ -57,8 +55,8 @@ pub fn next_tried(
                 timed: false,
                 criticality: 0,
             },
-            from: from,
-            to: to,
+            from,
+            to,
         };
     }
     let place = place_due(&sink[from..to], &criticality[from..to], in_tree);
@@ -69,7 +67,7 @@ pub fn next_tried(
                 criticality: 0,
             },
             from: to,
-            to: to,
+            to,
         };
     }
     let at = from + place;

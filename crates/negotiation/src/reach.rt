@@ -5,14 +5,14 @@ ghost use Rattle.negotiation.specs.Steps.{SameFrom, RoutableWith, FirstMissing};
 use crate::flood;
 use search::NODES_MOST;
 
-// What the test of all nets finds.
-#[derive(Clone, Copy)]
-pub enum Reach {
-    All,
-    Missing { net: u32, place: u32 },
+// A net, and the place of its first sink without a path.
+#[derive(Clone, Copy, Debug, PartialEq, Eq)]
+pub struct Missing {
+    pub net: u32,
+    pub place: u32,
 }
 
-// The first net, and the place of its first sink, without a path.
+// The first net with a sink without a path, and that sink's place.
 pub fn unreachable(
     kind: &[u8],
     first_edge: &[u32],
@@ -21,7 +21,7 @@ pub fn unreachable(
     first_sink: &[u32],
     sink: &[u16],
     work: &mut [u64],
-) -> Reach
+) -> Option<Missing>
     requires routable_with { RoutableWith kind.now first_edge.now edge_target.now source.now first_sink.now sink.now }
     requires kind_in_bounds { 8 * length kind.now ≤ length work.old }
     ensures first_missing { FirstMissing kind.now first_edge.now edge_target.now source.now
@@ -30,8 +30,7 @@ pub fn unreachable(
 {
     let n = kind.len();
     let mut reached = [0u8; NODES_MOST];
-    let mut net = 0;
-    while net < source.len() {
+    for net in 0..source.len() {
         let from = first_sink[net] as usize;
         let to = first_sink[net + 1] as usize;
         let s = source[net] as usize;
@@ -46,12 +45,11 @@ pub fn unreachable(
         );
         let place = flood::missing_sink(&reached[..n], &sink[from..to], 0);
         if place < to - from {
-            return Reach::Missing {
+            return Some(Missing {
                 net: net as u32,
                 place: place as u32,
-            };
+            });
         }
-        net += 1;
     }
-    Reach::All
+    None
 }

@@ -21,26 +21,19 @@ ghost use Rattle.negotiation.specs.Kept.{Ready, SomeReady};
 ghost use Rattle.negotiation.specs.Resume.{run_from, lent_records};
 ghost use Rattle.negotiation.specs.TakeSteps.{Started};
 
-use crate::take_up::Taken;
+use crate::take_up::Stopped;
 use crate::tariff::Tariff;
 use crate::{
-    Outcome, RouteAnswer, Start, back, congestion, due, nets, order, records, refused, take_up,
+    Outcome, RouteAnswer, back, congestion, due, nets, order, records, refused, take_up,
     tariff, trees,
 };
 use job::{NETS_MOST, Terms};
 use price::{Tuning, Weighting};
 use search::{AimedPath, EDGES_MOST, FIRST_EDGES_MOST, NODES_MOST, PathAnswer};
 
-// What an attempt at a turn does.
-#[derive(Clone, Copy)]
-pub enum TurnMade {
-    // No sink is left to be joined.
-    Nothing,
-    // The turn's record does not fit the log.
-    Full,
-    // The turn is logged, and this is the tariff after it.
-    Logged(Tariff),
-}
+// The next turn's record does not fit the log.
+#[derive(Clone, Copy, Debug, PartialEq, Eq)]
+pub struct NoRoom;
 
 // The tariff at the next iteration's start.
 fn next_iteration(t: Tariff, g: Tuning) -> Tariff
@@ -57,7 +50,7 @@ fn answer(outcome: Outcome, t: Tariff) -> RouteAnswer
         × (result.expanded ≡ t.expanded) }
 {
     RouteAnswer {
-        outcome: outcome,
+        outcome,
         iteration: t.iteration,
         turns: t.turns,
         used: t.words as u64,
@@ -70,11 +63,7 @@ pub fn clear(work: &mut [u64], to: usize)
     requires { to ≤ length work.old }
     ensures { work.new ≡ replicate to 0 ++ drop to work.old }
 {
-    let mut k = 0;
-    while k < to {
-        work[k] = 0;
-        k += 1;
-    }
+    work[..to].fill(0);
 }
 
 // The cheapest path of a turn, by the search that is chosen, and how many nodes it expanded: none are counted with the plain one.
@@ -140,12 +129,13 @@ fn found_path(
         sinks,
     );
     AimedPath {
-        answer: answer,
+        answer,
         expanded: 0,
     }
 }
 
-// One turn of a net for these sinks: its record is written where it fits, and its path joins the tree. Without sinks nothing is searched.
+// One turn of a net for these sinks: its record is written where it fits, and its path joins the tree. The answer is the tariff after the
+// turn, none where no sink is left to be joined. Without sinks nothing is searched.
 fn one_turn(
     kind: &[u8],
     capacity: &[u8],
@@ -163,7 +153,7 @@ fn one_turn(
     history: &[u32],
     users: &[u16],
     in_tree: &mut [u8],
-) -> TurnMade
+) -> Result<Option<Tariff>, NoRoom>
     requires ready { let block = block_of kind.now capacity.now first_edge.now edge_target.now in
         let congestion = weighed_congestion weighting delay.now tariff.factor history.now users.now in
         CanTurn block congestion tariff sinks.now in_tree.old work.old log.old }
@@ -177,8 +167,8 @@ fn one_turn(
         TurnDone result made count tariff net sinks.now log.old marks log.new in_tree.new }
     ensures same_from { SameFrom (8 * length kind.now) work.old work.new }
 {
-    if sinks.len() == 0 {
-        return TurnMade::Nothing;
+    if sinks.is_empty() {
+        return Ok(None);
     }
     let factor = tariff.factor;
     let found = found_path(
@@ -206,18 +196,19 @@ fn one_turn(
         length,
     } = answer
     else {
-        return TurnMade::Nothing;
+        return Ok(None);
     };
     let count = length as usize;
     let at = tariff.words;
     if log.len() - at < 6 + count {
-        return TurnMade::Full;
+        return Err(NoRoom);
     }
     let p = place as usize;
     let iteration = tariff.iteration;
     records::write_record(log, at, iteration, net, sinks[p] as u32, cost, work, count);
     trees::mark_path(work, count, in_tree);
-    TurnMade::Logged(tariff::turn_logged(tariff, 6 + count, expanded))
+    let logged = tariff::turn_logged(tariff, 6 + count, expanded);
+    Ok(Some(logged))
 }
 
 // The next turn of a net, whose sinks stand in table 7 from one place to below another: for all of them, in a timed job for the one whose
@@ -242,7 +233,7 @@ fn net_turn(
     history: &[u32],
     users: &[u16],
     in_tree: &mut [u8],
-) -> TurnMade
+) -> Result<Option<Tariff>, NoRoom>
     requires sinks_ready { SinksReady timed sink.now criticality.now from to in_tree.old }
     requires ready { let block = block_of kind.now capacity.now first_edge.now edge_target.now in
         let sinks = slice from to sink.now in
@@ -341,15 +332,14 @@ fn go_on(
         due::mark_due(
             terms, tariff, capacity, first_sink, log, tree_from, tree_to, users, due,
         );
-        let mut net = 0;
-        while net < source.len() {
+        for net in 0..source.len() {
             let from = first_sink[net] as usize;
             let to = first_sink[net + 1] as usize;
             let first = tariff.words;
-            let mut left = nets::begin_net(
+            let most = nets::begin_net(
                 log, source, first_sink, net, due, tree_from, tree_to, users, in_tree,
             );
-            while 0 < left {
+            for _ in 0..most {
                 match net_turn(
                     kind,
                     capacity,
@@ -371,21 +361,19 @@ fn go_on(
                     users,
                     in_tree,
                 ) {
-                    TurnMade::Nothing => {}
-                    TurnMade::Full => {
-                        break 'iterations;
-                    }
-                    TurnMade::Logged(t) => {
+                    Ok(None) => {}
+                    Ok(Some(t)) => {
                         tariff = t;
                     }
+                    Err(NoRoom) => {
+                        break 'iterations;
+                    }
                 }
-                left -= 1;
             }
             let until = tariff.words;
             nets::end_net(
                 log, net, first, until, due, users, in_tree, tree_from, tree_to,
             );
-            net += 1;
         }
         let over = congestion::over_count(capacity, users);
         let settled = over == 0;
@@ -416,7 +404,7 @@ fn start_at(
     delay: &[u16],
     criticality: &[u8],
     terms: Terms,
-    start: Start,
+    start: Option<usize>,
     begun: Tariff,
     history: &mut [u32],
     users: &mut [u16],
@@ -426,7 +414,7 @@ fn start_at(
     due: &mut [u8],
     work: &mut [u64],
     log: &[u32],
-) -> Taken
+) -> Result<Tariff, Stopped>
     requires { let job = job_of kind.now capacity.now first_edge.now edge_target.now source.now first_sink.now sink.now
         delay.now criticality.now terms in
         Routable job × (8 * nodes job ≤ length work.old)
@@ -439,10 +427,10 @@ fn start_at(
     ensures same_from { SameFrom (8 * length kind.now) work.old work.new }
 {
     match start {
-        Start::Anew => Taken::On(begun),
-        Start::After(used) => {
+        None => Ok(begun),
+        Some(used) => {
             if log.len() < used {
-                return Taken::Off(log.len());
+                return Err(Stopped::Off(log.len()));
             }
             take_up::take_up(
                 kind,
@@ -484,7 +472,7 @@ fn run_from(
     delay: &[u16],
     criticality: &[u8],
     terms: Terms,
-    start: Start,
+    start: Option<usize>,
     begun: Tariff,
     history: &mut [u32],
     users: &mut [u16],
@@ -510,7 +498,7 @@ fn run_from(
         let made = turns_logged (route_reply_of result work.new log.new) in
         result.expanded ≡ expanded_after begun.aimed job (lent_records start log.old) made }
 {
-    let taken = start_at(
+    let tariff = match start_at(
         kind,
         capacity,
         first_edge,
@@ -531,10 +519,12 @@ fn run_from(
         due,
         work,
         log,
-    );
-    let Taken::On(tariff) = taken else {
-        clear(work, 8 * kind.len());
-        return refused(Outcome::Diverges(take_up::words_at(taken) as u64));
+    ) {
+        Ok(tariff) => tariff,
+        Err(stopped) => {
+            clear(work, 8 * kind.len());
+            return refused(Outcome::Diverges(take_up::words_at(stopped) as u64));
+        }
     };
     go_on(
         kind,
@@ -575,7 +565,7 @@ fn run_listed(
     delay: &[u16],
     criticality: &[u8],
     terms: Terms,
-    start: Start,
+    start: Option<usize>,
     begun: Tariff,
     history: &mut [u32],
     users: &mut [u16],
@@ -640,7 +630,7 @@ fn run_aimed(
     delay: &[u16],
     criticality: &[u8],
     terms: Terms,
-    start: Start,
+    start: Option<usize>,
     begun: Tariff,
     history: &mut [u32],
     users: &mut [u16],
@@ -706,7 +696,7 @@ fn run_chosen(
     delay: &[u16],
     criticality: &[u8],
     terms: Terms,
-    start: Start,
+    start: Option<usize>,
     begun: Tariff,
     history: &mut [u32],
     users: &mut [u16],
@@ -792,7 +782,7 @@ pub fn negotiate(
     delay: &[u16],
     criticality: &[u8],
     terms: Terms,
-    start: Start,
+    start: Option<usize>,
     aimed: bool,
     work: &mut [u64],
     log: &mut [u32],
@@ -821,7 +811,7 @@ pub fn negotiate(
         factor: 0,
         turns: 0,
         words: 0,
-        aimed: aimed,
+        aimed,
         expanded: 0,
     };
     run_chosen(

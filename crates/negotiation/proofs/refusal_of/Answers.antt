@@ -1,4 +1,4 @@
--- `negotiation::refusal_of` meets its contract: the numbers of its tests, one by one.
+-- `negotiation::refusal_of` meets its contract: its tests, one by one.
 -- Assumes nothing.
 use mathlib.Core.Path.{◌≡◌, sym, ◌∙◌}
 use Prim.Native.Nat.{◌≤◌}
@@ -8,7 +8,7 @@ use Rattle.search.proofs.BlockLaws.{kinds-few}
 use Rattle.job.specs.Job.{Job, job_of}
 use Rattle.job.specs.Tables.{faulty_job}
 use Rattle.job.proofs.JobLaws.{sound-job}
-use Rattle.negotiation.proofs.RefusalLaws.{table_numbers, large_numbers, work-numbers, no_numbers}
+use Rattle.negotiation.proofs.RefusalLaws.{table_told, large_told, work-told, nothing_told}
 use Rattle.negotiation.proofs.refusal_of.Goals.{Else-table-ge1, Start}
 use Rattle.negotiation.proofs.refusal_of.Goals as goal
 
@@ -26,24 +26,24 @@ few-nodes c =
     kinds-few _ (sound-job _ none).block-sound.kinds_sound_lem
 
 pub returns-then-table-ge1 : goal.returns-then-table-ge1
-returns-then-table-ge1 c = table_numbers (job (goal.at.returns-then-table-ge1 c).Start) _ _ c.faulty_job-table.ensures c.if-table-ge1.true
+returns-then-table-ge1 c = table_told (job (goal.at.returns-then-table-ge1 c).Start) _ _ c.faulty_job-table.ensures c.if-table-ge1.true
 
 pub overflow_cast-result : goal.overflow_cast-result
 overflow_cast-result c = let f = few-nodes (goal.at.overflow_cast-result c).Else-table-ge1 in omega arith
 
 pub returns-then-exceeds : goal.returns-then-exceeds
 returns-then-exceeds c =
-    large_numbers (job (goal.at.returns-then-exceeds c).Start) _ _ c.faulty_job-table.ensures c.if-table-ge1.false (sym c.exceeds.ensures ∙ c.if-exceeds.true)
+    large_told (job (goal.at.returns-then-exceeds c).Start) _ _ c.faulty_job-table.ensures c.if-table-ge1.false (sym c.exceeds.ensures ∙ c.if-exceeds.true)
 
 pub overflow_mul-needed : goal.overflow_mul-needed
 overflow_mul-needed c = let f = few-nodes (goal.at.overflow_mul-needed c).Else-table-ge1 in omega arith
 
 pub returns-then-entries-needed : goal.returns-then-entries-needed
 returns-then-entries-needed c =
-    work-numbers (job (goal.at.returns-then-entries-needed c).Start) _ _ c.faulty_job-table.ensures c.if-table-ge1.false (sym c.exceeds.ensures ∙ c.if-exceeds.false)
+    work-told (job (goal.at.returns-then-entries-needed c).Start) _ _ c.faulty_job-table.ensures c.if-table-ge1.false (sym c.exceeds.ensures ∙ c.if-exceeds.false)
     c.if-entries-needed.true
 
 pub returns : goal.returns
 returns c =
-    no_numbers (job (goal.at.returns c).Start) _ _ c.faulty_job-table.ensures c.if-table-ge1.false (sym c.exceeds.ensures ∙ c.if-exceeds.false)
+    nothing_told (job (goal.at.returns c).Start) _ _ c.faulty_job-table.ensures c.if-table-ge1.false (sym c.exceeds.ensures ∙ c.if-exceeds.false)
     c.if-entries-needed.false

@@ -41,20 +41,20 @@ overflow_mul-kind c =
 pub negotiate-requires : goal.negotiate-requires
 negotiate-requires c =
     let at = (goal.at.negotiate-requires c).After-unreachable in
-    (c.requires.0, none-missing (job at) _ (test at) c.in-All.is, le_trans c.requires.1 (le_of_eq (sym c.unreachable.ensures.same_from.long)))
+    (c.requires.0, none-missing (job at) _ (test at) c.in-None.is, le_trans c.requires.1 (le_of_eq (sym c.unreachable.ensures.same_from.long)))
 
-pub returns-in-Missing : goal.returns-in-Missing
-returns-in-Missing c =
-    let at = (goal.at.returns-in-Missing c).After-unreachable in record {
+pub returns-in-Some : goal.returns-in-Some
+returns-in-Some c =
+    let at = (goal.at.returns-in-Some c).After-unreachable in record {
       answers = unreachable_refused c.args.start (job at) _ _ _ (test at) _ c.unreachable.ensures.same_from
-          _ _ _ _ c.in-Missing.is c.refused.ensures c.clear.ensures;
+          _ _ _ c.in-Some.is c.refused.ensures c.clear.ensures;
       expanded = refused-counts c.args.aimed (job at) _ c.refused.result c.args.log.now c.refused.ensures;
     }
 
-pub returns-in-All : goal.returns-in-All
-returns-in-All c =
-    let at = (goal.at.returns-in-All c).After-unreachable in record {
+pub returns-in-None : goal.returns-in-None
+returns-in-None c =
+    let at = (goal.at.returns-in-None c).After-unreachable in record {
       answers = run_answered c.args.start (job at) _ _ _ (test at) _ c.unreachable.ensures.same_from
-          c.negotiate.result c.negotiate.new.work c.negotiate.new.log c.in-All.is c.negotiate.ensures.answers;
+          c.negotiate.result c.negotiate.new.work c.negotiate.new.log c.in-None.is c.negotiate.ensures.answers;
       expanded = c.negotiate.ensures.expanded;
     }

@@ -9,9 +9,9 @@ use Rattle.job.specs.Job.{Job, job_of}
 use Rattle.job.specs.Join.{joined}
 use Rattle.negotiation.specs.Routable.{Routable}
 use Rattle.negotiation.proofs.JoiningLaws.{joined-job}
-use Rattle.negotiation.proofs.RefusalLaws.{TestsPass, accepted_passes, refused-counts}
+use Rattle.negotiation.proofs.RefusalLaws.{TestsPass, no_refusal, accepted_passes, refused-counts}
 use Rattle.negotiation.proofs.RouteLaws.{given_joinable, given_critical, given_routable, job-refused, joined-answered, joined-counts}
-use Rattle.negotiation.proofs.routed_from.Goals.{After-joined_tables-count, In-Accepted, Start}
+use Rattle.negotiation.proofs.routed_from.Goals.{After-joined_tables-count, In_default, Start}
 use Rattle.negotiation.proofs.routed_from.Goals as goal
 
 -- the job that is lent
@@ -21,14 +21,14 @@ job e =
     e.args.first_sink.now e.args.sink.now e.args.delay.now e.args.criticality.now e.args.terms
 
 -- they pass
-module _ (c : In-Accepted) where
+module _ (c : In_default) where
   abbrev listed : Job
   listed =
       job_of c.args.kind.now c.args.capacity.now c.args.first_edge.now c.args.edge_target.now c.args.source.now
       c.args.first_sink.now c.args.sink.now c.args.delay.now c.args.criticality.now c.args.terms
 
   passes : TestsPass listed (length c.args.work.now)
-  passes = accepted_passes listed _ _ c.refusal_of-refusal.ensures c.in-Accepted.is
+  passes = accepted_passes listed _ c.refusal_of.ensures (no_refusal _ c.in_default.not-Err)
 
 -- the nets are joined
 module _ (c : After-joined_tables-count) where
@@ -51,7 +51,7 @@ module _ (c : After-joined_tables-count) where
 
 pub joined_tables-count-requires : goal.joined_tables-count-requires
 joined_tables-count-requires c =
-    let at = (goal.at.joined_tables-count-requires c).In-Accepted in
+    let at = (goal.at.joined_tables-count-requires c).In_default in
     let tables = given_joinable (listed at) (passes at) in
     let few = (given_routable (listed at) (passes at)).nets-few in record {
       joinable = tables;
@@ -71,18 +71,18 @@ slice_bounds-route_joined-end-3 c = sym (length-take-le _ _ c.joined_tables-coun
 pub route_joined-requires : goal.route_joined-requires
 route_joined-requires c =
     let at = goal.at.route_joined-requires c in
-    (subst Routable (sym (made-is at.After-joined_tables-count)) (given_routable (listed at.In-Accepted) (passes at.In-Accepted)), (passes at.In-Accepted).enough)
+    (subst Routable (sym (made-is at.After-joined_tables-count)) (given_routable (listed at.In_default) (passes at.In_default)), (passes at.In_default).enough)
 
-pub returns-in_default : goal.returns-in_default
-returns-in_default c =
-    let lent = job (goal.at.returns-in_default c).Start in record {
-      answers = job-refused c.args.start lent _ _ _ c.refusal_of-refusal.ensures c.in_default.not-Accepted _ c.refused.ensures;
+pub returns-in-Err : goal.returns-in-Err
+returns-in-Err c =
+    let lent = job (goal.at.returns-in-Err c).Start in record {
+      answers = job-refused c.args.start lent _ _ c.refusal_of.ensures c.in-Err.is _ c.refused.ensures;
       expanded = refused-counts c.args.aimed (joined lent) _ c.refused.result _ c.refused.ensures;
     }
 
 pub returns : goal.returns
 returns c =
     let at = (goal.at.returns c).After-joined_tables-count in record {
-      answers = joined-answered c.args.start (given at) _ _ _ c.refusal_of-refusal.ensures c.in-Accepted.is (made at) (made-is at) _ c.route_joined.ensures.answers;
+      answers = joined-answered c.args.start (given at) _ _ c.refusal_of.ensures (no_refusal _ c.in_default.not-Err) (made at) (made-is at) _ c.route_joined.ensures.answers;
       expanded = joined-counts (made at) (made-is at) _ _ _ _ c.route_joined.ensures.expanded;
     }

@@ -41,14 +41,14 @@ pub audit_lists-requires : goal.audit_lists-requires
 audit_lists-requires c =
     (c.requires.0, le_trans c.requires.1 (le_of_eq (sym c.unreachable.ensures.same_from.long)))
 
-pub returns-in-Missing : goal.returns-in-Missing
-returns-in-Missing c =
-    let tested = (goal.at.returns-in-Missing c).After-unreachable in
-    unreachable_audited (job tested) c.args.work.now _ c.unreachable.ensures.same_from _ (test tested) c.args.used c.args.log.now _ _ _ _
-    c.in-Missing.is c.refused.ensures c.clear.ensures
+pub returns-in-Some : goal.returns-in-Some
+returns-in-Some c =
+    let tested = (goal.at.returns-in-Some c).After-unreachable in
+    unreachable_audited (job tested) c.args.work.now _ c.unreachable.ensures.same_from _ (test tested) c.args.used c.args.log.now _ _ _
+    c.in-Some.is c.refused.ensures c.clear.ensures
 
-pub returns-in-All : goal.returns-in-All
-returns-in-All c =
-    let tested = (goal.at.returns-in-All c).After-unreachable in
-    run_audited (job tested) c.args.work.now _ c.unreachable.ensures.same_from _ (test tested) c.args.used c.args.log.now _ c.in-All.is
+pub returns-in-None : goal.returns-in-None
+returns-in-None c =
+    let tested = (goal.at.returns-in-None c).After-unreachable in
+    run_audited (job tested) c.args.work.now _ c.unreachable.ensures.same_from _ (test tested) c.args.used c.args.log.now _ c.in-None.is
     c.audit_lists.ensures

@@ -13,12 +13,9 @@ use Rattle.negotiation.proofs.flood.flood.Goals as goal
 next-few : (t : In-loop-next) → t.loop-next.next < length t.args.kind.now
 next-few t = omega (arith, t.loop-next-test.true, queue-few t.loop-next.invariant.0.queue)
 
-pub clear_marks-requires : goal.clear_marks-requires
-clear_marks-requires c = tt
-
 pub bounds-reached-source : goal.bounds-reached-source
 bounds-reached-source c =
-    let e : c.clear_marks.new.reached ≡ replicate (length c.args.reached.now) 0 = c.clear_marks.ensures in
+    let e : c.fill.new.self ≡ replicate (length c.args.reached.now) 0 = c.fill.ensures.after (λ y e. e) in
     let node = c.requires.source-node in
     let long = c.requires.marks_long in
     rw (e, length-replicate {A = ℕ} (length c.args.reached.now) 0) (omega arith)
@@ -31,7 +28,7 @@ bounds-work-0 c =
     some
 
 pub loop-next-init : goal.loop-next-init
-loop-next-init c = (flood_start c.requires c.clear_marks.ensures, omega arith, λ p l. absurd (omega arith))
+loop-next-init c = (flood_start c.requires (c.fill.ensures.after (λ y e. e)), omega arith, λ p l. absurd (omega arith))
 
 pub missing_sink-missing-requires : goal.missing_sink-missing-requires
 missing_sink-missing-requires c =

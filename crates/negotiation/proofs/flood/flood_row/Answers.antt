@@ -1,4 +1,4 @@
--- `negotiation::flood::flood_row` meets its contract. The invariant: the row is flooded up to place e. The measure is what is left of the row.
+-- `negotiation::flood::flood_row` meets its contract. The invariant: the row is flooded up to place e.
 -- Assumes nothing.
 use mathlib.Core.Path.{◌≡◌}
 use Prim.Native.Nat.{◌+◌, ◌≤◌, ◌<◌}
@@ -51,8 +51,8 @@ offset_bounds-first_edge-u-2 c = let few = c.requires.graph.few in let h = c.req
 pub bounds-first_edge-u-2 : goal.bounds-first_edge-u-2
 bounds-first_edge-u-2 c = let l = first_edges-long _ c.requires.graph in let h = c.requires.node in omega arith
 
-pub overflow_cast-e : goal.overflow_cast-e
-overflow_cast-e c = omega (arith, c.type_inv.first_edge c.args.u)
+pub overflow_cast-from : goal.overflow_cast-from
+overflow_cast-from c = omega (arith, c.type_inv.first_edge c.args.u)
 
 pub loop-e-init : goal.loop-e-init
 loop-e-init c =
@@ -85,9 +85,6 @@ overflow_add-last c =
     let most = queue-few c.loop-e.invariant.2.queue in
     let few = c.requires.graph.few in
     (elim c.if-reached-v-eq0.branch [ then-reached-v-eq0 w ↦ omega (arith, w.new-is) | else-reached-v-eq0 w ↦ omega (arith, w.new-is) ])
-
-pub overflow_add-e : goal.overflow_add-e
-overflow_add-e c = omega (arith, row_within (goal.at.overflow_add-e c).Start)
 
 -- (the turn is written out: under `turn` the second `rw` finds no motive)
 pub loop-e-preserved : goal.loop-e-preserved

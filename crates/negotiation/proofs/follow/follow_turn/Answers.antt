@@ -3,7 +3,7 @@
 use mathlib.Core.Bool.{not}
 use Rattle.std.proofs.Common.{ap}
 use mathlib.Core.Bool.{true}
-use mathlib.Core.Path.{◌≡◌, refl}
+use mathlib.Core.Path.{◌≡◌, refl, sym, ◌∙◌}
 use Prim.Native.Nat.{◌+◌}
 use native.Mathlib.Omega.{arith}
 use lib.ListN.{length, drop}
@@ -42,19 +42,23 @@ path_cost-requires c = turn-ready c.requires _ _ (follows (goal.at.path_cost-req
 pub cost_is-requires : goal.cost_is-requires
 cost_is-requires c = let long = (frame (goal.at.cost_is-requires c).Else-not-frame_follows).long in omega arith
 
-pub returns-then-not-cost_is : goal.returns-then-not-cost_is
-returns-then-not-cost_is c = record {
-  value = turn_dear c.requires _ _ (follows (goal.at.returns-then-not-cost_is c).Else-not-frame_follows) c.path_cost.ensures.value c.in-Cost.is
-      (refused c.cost_is.ensures (ap not c.if-not-cost_is.true));
-  stored = λ some. absurd (some refl);
+pub returns-in_err-cost : goal.returns-in_err-cost
+returns-in_err-cost c = record {
+  value = c.from_residual.ensures
+      ∙ turn_strays c.requires _ _ (follows (goal.at.returns-in_err-cost c).Else-not-frame_follows) c.path_cost.ensures.value c.in_err-cost.was;
+  stored = λ some. absurd (some c.from_residual.ensures);
 }
 
-pub returns-in-Strays : goal.returns-in-Strays
-returns-in-Strays c = record { value = turn_strays c.requires _ _ (follows (goal.at.returns-in-Strays c).Else-not-frame_follows) c.path_cost.ensures.value c.in-Strays.is; stored = λ some. absurd (some refl) }
+pub returns-then-cost_is : goal.returns-then-cost_is
+returns-then-cost_is c = record {
+  value = turn_on c.requires _ _ (follows (goal.at.returns-then-cost_is c).Else-not-frame_follows) c.path_cost.ensures.value c.in_ok-cost.was
+      (sym c.cost_is.ensures ∙ c.if-cost_is.true);
+  stored = λ some. turn-marked c.requires _ _ (follows (goal.at.returns-then-cost_is c).Else-not-frame_follows) c.in_ok-cost.was c.path_cost.ensures.path_marked;
+}
 
-pub returns-else-not-cost_is : goal.returns-else-not-cost_is
-returns-else-not-cost_is c = record {
-  value = turn_on c.requires _ _ (follows (goal.at.returns-else-not-cost_is c).Else-not-frame_follows) c.path_cost.ensures.value c.in-Cost.is
-      (passed c.cost_is.ensures (ap not c.if-not-cost_is.false));
-  stored = λ some. turn-marked c.requires _ _ (follows (goal.at.returns-else-not-cost_is c).Else-not-frame_follows) c.in-Cost.is c.path_cost.ensures.path_marked;
+pub returns-else-cost_is : goal.returns-else-cost_is
+returns-else-cost_is c = record {
+  value = turn_dear c.requires _ _ (follows (goal.at.returns-else-cost_is c).Else-not-frame_follows) c.path_cost.ensures.value c.in_ok-cost.was
+      (sym c.cost_is.ensures ∙ c.if-cost_is.false);
+  stored = λ some. absurd (some refl);
 }

@@ -31,8 +31,8 @@ offset_bounds-first_edge-u-2 c = let few = c.requires.0.few in let h = c.require
 pub bounds-first_edge-u-2 : goal.bounds-first_edge-u-2
 bounds-first_edge-u-2 c = let l = first_edges-long _ c.requires.0 in let h = c.requires.1 in omega arith
 
-pub overflow_cast-e : goal.overflow_cast-e
-overflow_cast-e c = omega (arith, c.type_inv.first_edge c.args.u)
+pub overflow_cast-from : goal.overflow_cast-from
+overflow_cast-from c = omega (arith, c.type_inv.first_edge c.args.u)
 
 pub loop-e-init : goal.loop-e-init
 loop-e-init c = row_first c.requires.0 c.requires.1 _
@@ -49,9 +49,6 @@ overflow_cast-edge_target c = omega (arith, c.type_inv.edge_target c.loop-e.e)
 pub returns-then-edge_target-e : goal.returns-then-edge_target-e
 returns-then-edge_target-e c =
     sym (row_here c.requires.0 c.requires.1 c.loop-e.invariant c.loop-e-test.true c.if-edge_target-e.true)
-
-pub overflow_add-e : goal.overflow_add-e
-overflow_add-e c = omega (arith, row_within (goal.at.overflow_add-e c).Start)
 
 pub loop-e-preserved : goal.loop-e-preserved
 loop-e-preserved c =

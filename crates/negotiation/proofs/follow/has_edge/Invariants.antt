@@ -7,6 +7,3 @@ use Rattle.negotiation.proofs.follow.has_edge.Given as goal
 
 abbrev pub invariant-loop-e : goal.invariant-loop-e
 invariant-loop-e l = RowLeft (graph_of l.kind l.first_edge l.edge_target) l.u l.v l.e
-
-abbrev pub decreases-loop-e : goal.decreases-loop-e
-decreases-loop-e l = l.to - l.e

@@ -14,7 +14,3 @@ invariant-loop-net l =
     (capacities delays criticalities : List ℕ) (terms : Terms)
     → Routable (job_of l.kind capacities l.first_edge l.edge_target l.source l.first_sink l.sink delays criticalities terms)
     → Tested (job_of l.kind capacities l.first_edge l.edge_target l.source l.first_sink l.sink delays criticalities terms) 4096 l.initial.work l.work l.reached l.net
-
-abbrev pub decreases-loop-net : goal.decreases-loop-net
-decreases-loop-net l =
-    length l.source - l.net

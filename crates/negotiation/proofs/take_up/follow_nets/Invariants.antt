@@ -18,7 +18,3 @@ invariant-loop-net l =
     → NetsOn l.walk.audit (job_of l.kind l.capacity l.first_edge l.edge_target l.source l.first_sink l.sink l.delay l.criticality terms) p l.net l.tariff l.history l.users l.in_tree l.tree_from l.tree_to l.log)
     × (l.net ≤ length l.source)
     × SameFrom (8 * length l.kind) l.initial.work l.work
-
-abbrev pub decreases-loop-net : goal.decreases-loop-net
-decreases-loop-net l =
-    length l.source - l.net

@@ -1,11 +1,11 @@
 -- `negotiation::turns::go_on` meets its contract. At the head of each loop the lists and the tariff are the machine's (`KeepLaws`), from any progress whose
 -- they were at first; within an iteration that is said from any such place at the iteration's start. What is safe rests on the one progress that is asked for.
--- So is what the tariff counts (`KeepCount`). The measures: iterations up to the limit, nets left, turns left.
+-- So is what the tariff counts (`KeepCount`). The measure: iterations up to the limit.
 -- Assumes nothing.
 use mathlib.Core.List.{List}
 use mathlib.Core.Path.{◌≡◌, refl, ◌∙◌, sym, ap, subst}
-use Prim.Native.Nat.{ℕ, ◌*◌, ◌≤◌, ◌<◌}
-use native.Mathlib.Nat.{le_of_eq, le_trans}
+use Prim.Native.Nat.{ℕ, ◌+◌, ◌-◌, ◌*◌, ◌≤◌, ◌<◌}
+use native.Mathlib.Nat.{le_of_eq, le_trans, sub-zero}
 use native.Mathlib.Omega.{arith}
 use lib.Dec.{ltb}
 use lib.ListN.{length, get_or}
@@ -25,7 +25,7 @@ use Rattle.negotiation.proofs.KeepTurn.{Lent, lent_tables, call_tried, call_turn
 use Rattle.negotiation.proofs.turns.KeepNet.{keep_end-ready, keep_ended}
 use Rattle.negotiation.proofs.turns.KeepEnd.{Answers, after_full, all-routed, history_long, keep_accepted, keep_limit, keep_growable, keep_below, keep_next}
 use Rattle.negotiation.proofs.turns.KeepCount.{Counts, CountsOn, counts_start, counts_same, counts-answer, counts_fit, counts_nothing, counts_full, counts-logged}
-use Rattle.negotiation.proofs.turns.go_on.Goals.{At-loop-left, At-loop-net, in-Logged, in-Nothing}
+use Rattle.negotiation.proofs.turns.go_on.Goals.{At-loop, At-loop-net, in-Ok-Some, in-Ok-None}
 use Rattle.negotiation.proofs.turns.go_on.Goals as goal
 
 -- the nodes over capacity, as the code counts them
@@ -105,7 +105,7 @@ module _ (c : At-loop-net) where
   whole_safe past = whole past c.requires.ready.1.progress c.requires.ready.1.ready
 
 -- at the head of the loop over turns
-module _ (c : At-loop-left) where
+module _ (c : At-loop) where
   abbrev turn_job : Job
   turn_job =
       job_of c.args.kind.now c.args.capacity.now c.args.first_edge.now c.args.edge_target.now c.args.source.now c.args.first_sink.now
@@ -124,25 +124,25 @@ module _ (c : At-loop-left) where
   -- its old tree is dropped
   abbrev TurnHere : Progress → List ℕ → List ℕ → ℕ → Type 0
   TurnHere p W L m =
-      AtTurns turn_job p W L m c.loop-net.net c.loop-left.left c.loop-left.tariff c.iterations.history c.begin_net-left.new.users
-      c.loop-left.in_tree c.loop-net.tree_from c.loop-net.tree_to c.mark_due.new.due c.loop-left.work c.loop-left.log
+      AtTurns turn_job p W L m c.loop-net.net (c.begin_net-most.result - c.loop.counter) c.loop.tariff c.iterations.history c.begin_net-most.new.users
+      c.loop.in_tree c.loop-net.tree_from c.loop-net.tree_to c.mark_due.new.due c.loop.work c.loop.log
       c.loop-net.tariff.words
 
   turn_inv :
       (p : Progress) (W L : List ℕ) (m : ℕ) → 8 * nodes turn_job ≤ length W → TurnStart p W L m
-      → TurnHere p W L m × CountsOn turn_job p c.loop-net.tariff c.loop-net.log c.loop-left.tariff c.loop-left.log
+      → TurnHere p W L m × CountsOn turn_job p c.loop-net.tariff c.loop-net.log c.loop.tariff c.loop.log
   turn_inv p W L m e o =
       let begun =
-      keep_begun _ c.requires.ready.0.0 (c.loop-net.invariant p W L m e o).0 c.loop-net-test.true c.begin_net-left.ensures.idle
-      c.begin_net-left.ensures.begun in
-      c.loop-left.invariant p W L m e begun
+      keep_begun _ c.requires.ready.0.0 (c.loop-net.invariant p W L m e o).0 c.loop-net-test.true c.begin_net-most.ensures.idle
+      c.begin_net-most.ensures.begun in
+      c.loop.invariant p W L m e begun
 
   turn_from : (p : Progress) (W L : List ℕ) (m : ℕ) → 8 * nodes turn_job ≤ length W → TurnStart p W L m → TurnHere p W L m
   turn_from p W L m e o = (turn_inv p W L m e o).0
 
   turn_counts :
       (p : Progress) (W L : List ℕ) (m : ℕ) → 8 * nodes turn_job ≤ length W → TurnStart p W L m
-      → CountsOn turn_job p c.iterations.tariff c.iterations.log c.loop-left.tariff c.loop-left.log
+      → CountsOn turn_job p c.iterations.tariff c.iterations.log c.loop.tariff c.loop.log
   turn_counts p W L m e o k aimed ran h =
       (turn_inv p W L m e o).1 k aimed ran ((c.loop-net.invariant p W L m e o).1 k aimed ran h)
 
@@ -155,7 +155,7 @@ module _ (c : At-loop-left) where
   -- the nodes that are counted
   turn_counted :
       (p : Progress) (k : ℕ) → TurnReadyAt p → Ran turn_job k p.records p.state
-      → Counts c.args.begun.aimed turn_job p.records c.loop-left.tariff c.loop-left.log
+      → Counts c.args.begun.aimed turn_job p.records c.loop.tariff c.loop.log
   turn_counted p k r ran =
       let none = counts_start turn_job r c.requires.ready.1.none-expanded in
       turn_counts p _ _ _ c.requires.ready.0.2 (turn_start p r) k _ ran ((c.iterations.invariant p r).2 k _ ran none)
@@ -184,19 +184,19 @@ mark_due-requires c =
 pub loop-net-init : goal.loop-net-init
 loop-net-init c = λ p W L m e at. (at, λ k aimed ran h. h)
 
-pub begin_net-left-requires : goal.begin_net-left-requires
-begin_net-left-requires c =
-    keep_ready _ c.requires.ready.0.0 (net_safe (goal.at.begin_net-left-requires c).At-loop-net) c.loop-net-test.true
+pub begin_net-most-requires : goal.begin_net-most-requires
+begin_net-most-requires c =
+    keep_ready _ c.requires.ready.0.0 (net_safe (goal.at.begin_net-most-requires c).At-loop-net) c.loop-net-test.true
 
-pub loop-left-init : goal.loop-left-init
-loop-left-init c = λ p W L m e at. (at, λ k aimed ran h. h)
+pub loop-init : goal.loop-init
+loop-init c = λ p W L m e at. (rw (sub-zero c.begin_net-most.result) at, λ k aimed ran h. h)
 
 pub net_turn-requires : goal.net_turn-requires
 net_turn-requires c =
-    let at : At-loop-left = (goal.at.net_turn-requires c).At-loop-left in
+    let at : At-loop = (goal.at.net_turn-requires c).At-loop in
     let sound = c.requires.ready.0.0 in
     let enough = c.requires.ready.0.2 in
-    let left = c.loop-left-test.true in
+    let left : 0 < c.begin_net-most.result - c.loop.counter = omega (arith, c.loop-test.true) in
     let ran = c.requires.ready.1.ran in
     let counts = turn_counted at c.requires.ready.1.progress _ c.requires.ready.1.ready ran in
     let few = counts_fit _ sound (all-reached _ c.requires.ready.0.1) enough (turn_safe at) left (tables at) ran counts in
@@ -206,41 +206,44 @@ net_turn-requires c =
       back_lent = λ aims. c.requires.back_lent (sym counts.aimed_is ∙ aims);
     }
 
-pub loop-left-preserved : goal.loop-left-preserved
-loop-left-preserved c =
-    let at : At-loop-left = (goal.at.loop-left-preserved c).At-loop-left in
+pub loop-preserved : goal.loop-preserved
+loop-preserved c =
+    let at : At-loop = (goal.at.loop-preserved c).At-loop in
     let sound = c.requires.ready.0.0 in
     let reachable = all-reached _ c.requires.ready.0.1 in
-    let left = c.loop-left-test.true in
+    let left : 0 < c.begin_net-most.result - c.loop.counter = omega (arith, c.loop-test.true) in
     let done = c.net_turn.ensures in
+    let one_less : c.begin_net-most.result - (c.loop.counter + 1) ≡ c.begin_net-most.result - c.loop.counter - 1 = omega arith in
     λ p W L m e o.
-    let inv = c.loop-left.invariant p W L m e o in
+    let inv = c.loop.invariant p W L m e o in
     elim c.match-net_turn.branch [
-      | in-Nothing w ↦ (
-        after_nothing _ sound e inv.0 left (tables at) _ _ _ done.same_from _ done.answers w.in-Nothing.is _ w.tariff-is,
+      | in-Ok-None w ↦ (
+        rw one_less (after_nothing _ sound e inv.0 left (tables at) _ _ _ done.same_from _ done.answers w.in-Ok-None.is _ w.tariff-is),
         λ k aimed ran h.
-            counts_nothing _ sound reachable e inv.0 left (tables at) _ _ _ done.same_from _ done.answers w.in-Nothing.is _ w.tariff-is k aimed
+            counts_nothing _ sound reachable e inv.0 left (tables at) _ _ _ done.same_from _ done.answers w.in-Ok-None.is _ w.tariff-is k aimed
             ran (inv.1 k aimed ran h),
       )
-      | in-Logged w ↦ (
-        after-logged _ sound e inv.0 left (tables at) _ _ _ done.same_from _ done.answers _ w.in-Logged.is _ w.tariff-is,
+      | in-Ok-Some w ↦ (
+        rw one_less (after-logged _ sound e inv.0 left (tables at) _ _ _ done.same_from _ done.answers _ w.in-Ok-Some.is _ w.tariff-is),
         λ k aimed ran h.
-            counts-logged _ sound reachable e inv.0 left (tables at) _ _ _ done.same_from _ done.answers _ w.in-Logged.is _ w.tariff-is k aimed
+            counts-logged _ sound reachable e inv.0 left (tables at) _ _ _ done.same_from _ done.answers _ w.in-Ok-Some.is _ w.tariff-is k aimed
             ran (inv.1 k aimed ran h),
       )
     ]
 
 pub end_net-requires : goal.end_net-requires
 end_net-requires c =
-    let safe = turn_safe (goal.at.end_net-requires c).At-loop-left in
-    keep_end-ready _ c.requires.ready.0.0 (all-reached _ c.requires.ready.0.1) c.loop-left-test.false safe
+    let safe = turn_safe (goal.at.end_net-requires c).At-loop in
+    let none_left : c.begin_net-most.result - c.loop.counter ≤ 0 = omega (arith, c.loop-test.false) in
+    keep_end-ready _ c.requires.ready.0.0 (all-reached _ c.requires.ready.0.1) none_left safe
 
 pub loop-net-preserved : goal.loop-net-preserved
 loop-net-preserved c =
-    let at : At-loop-left = (goal.at.loop-net-preserved c).At-loop-left in
+    let at : At-loop = (goal.at.loop-net-preserved c).At-loop in
     let reachable = all-reached _ c.requires.ready.0.1 in
+    let none_left : c.begin_net-most.result - c.loop.counter ≤ 0 = omega (arith, c.loop-test.false) in
     λ p W L m e o. (
-      keep_ended _ c.requires.ready.0.0 reachable c.loop-left-test.false (turn_from at p W L m e o) c.end_net.ensures.passed
+      keep_ended _ c.requires.ready.0.0 reachable none_left (turn_from at p W L m e o) c.end_net.ensures.passed
           c.end_net.ensures.ended,
       turn_counts at p W L m e o,
     )
@@ -324,15 +327,15 @@ iterations-preserved c =
 
 pub returns : goal.returns
 returns c =
-    let at : At-loop-left = (goal.at.returns c).At-loop-left in
+    let at : At-loop = (goal.at.returns c).At-loop in
     let sound = c.requires.ready.0.0 in
     let enough = c.requires.ready.0.2 in
-    let left = c.loop-left-test.true in
-    let none = c.in-Full.is in
+    let left : 0 < c.begin_net-most.result - c.loop.counter = omega (arith, c.loop-test.true) in
+    let none = c.in-Err.is in
     let done = c.net_turn.ensures in
     let result = c.answer-2.result in
     let answer = c.answer-2.ensures in
-    let numbers : Answers result c.loop-left.tariff = record { iteration-is = answer.1; turns-is = answer.2; words-is = answer.3 } in
+    let numbers : Answers result c.loop.tariff = record { iteration-is = answer.1; turns-is = answer.2; words-is = answer.3 } in
     record {
       answers = λ p r.
           after_full _ sound enough (turn_at at p r) left (tables at) _ _ _ done.same_from _ done.answers none _ c.clear-2.ensures

@@ -1,11 +1,13 @@
 -- `negotiation::turns::one_turn` meets its contract: without sinks no turn is made; nothing is refused, so the search's answer is the turn, and where its record fits it is logged and marked.
 -- Assumes nothing.
+use mathlib.Core.Path.{sym, ◌∙◌}
 use native.Mathlib.Omega.{arith}
+use borrow.Author.Tests.{eqb-true}
 use Rattle.negotiation.proofs.turns.OneTurnLaws.{turn-none, turn-joined, turn_other, turn-counts, turn_full, turn-logs}
 use Rattle.negotiation.proofs.turns.one_turn.Goals as goal
 
-pub returns-then-sinks-eq0 : goal.returns-then-sinks-eq0
-returns-then-sinks-eq0 c = let h = turn-none _ _ _ _ c.if-sinks-eq0.true in record { answers = h.0; same_from = h.1 }
+pub returns-then-is_empty : goal.returns-then-is_empty
+returns-then-is_empty c = let h = turn-none _ _ _ _ (eqb-true _ _ (sym c.is_empty.ensures ∙ c.if-is_empty.true)) in record { answers = h.0; same_from = h.1 }
 
 pub found_path-found-requires : goal.found_path-found-requires
 found_path-found-requires c = record { ready = (c.requires.ready.ready, c.requires.ready.sinks_sound_lem); back_lent = c.requires.back_lent }
@@ -38,8 +40,8 @@ mark_path-requires c =
     let j = turn-joined c.requires.ready c.in-Joins.is c.found_path-found.ensures.0 in
     (j.long, j.nodes-below)
 
-pub turn_logged-requires : goal.turn_logged-requires
-turn_logged-requires c =
+pub turn_logged-logged-requires : goal.turn_logged-logged-requires
+turn_logged-logged-requires c =
     let counts = turn-counts c.requires.ready c.found_path-found.ensures.1 in (
       omega (arith, c.if-log-at.false, c.requires.ready.within, c.requires.ready.few-turns),
       omega (arith, c.if-log-at.false, c.requires.ready.within),
@@ -50,6 +52,6 @@ pub returns : goal.returns
 returns c =
     let j = turn-joined c.requires.ready c.in-Joins.is c.found_path-found.ensures.0 in record {
       answers = turn-logs j (omega (arith, c.if-log-at.false, c.requires.ready.within)) c.write_record.ensures c.mark_path.ensures
-          c.turn_logged.ensures c.found_path-found.ensures.1;
+          c.turn_logged-logged.ensures c.found_path-found.ensures.1;
       same_from = j.rest;
     }
