@@ -110,16 +110,8 @@ fn nets(text: &[u8], block: Tables, n: Asked) {
         source: read::entries(text, 6, &mut source),
         first_sink: read::entries(text, 7, &mut first_sink),
         sink: read::entries(text, 8, &mut sink),
-        delay: if n.whole {
-            read::entries(text, 9, &mut delay)
-        } else {
-            &[]
-        },
-        criticality: if n.whole {
-            read::entries(text, 10, &mut criticality)
-        } else {
-            &[]
-        },
+        delay: read::entries_if(n.whole, text, 9, &mut delay),
+        criticality: read::entries_if(n.whole, text, 10, &mut criticality),
         terms: n.terms,
     };
     if resumes(text) {

@@ -133,11 +133,7 @@ fn lists<'x>(text: &'x [u8], tables: Tables<'x>, weighting: Weighting, factor: u
     let mut in_tree = [0u8; 1025];
     let prices = Prices {
         weighting,
-        delay: if weighting.timed {
-            read::entries(text, 6, &mut delay)
-        } else {
-            &[]
-        },
+        delay: read::entries_if(weighting.timed, text, 6, &mut delay),
         factor,
         history: read::entries(text, line(weighting, 6), &mut history),
         others: read::entries(text, line(weighting, 7), &mut others),

@@ -3,5 +3,5 @@
 use Rattle.uses.proofs.TallyLaws.{Tallying}
 use Rattle.uses.proofs.tally.tally.Given as goal
 
-abbrev pub invariant-loop-k : goal.invariant-loop-k
-invariant-loop-k l = Tallying l.kind l.weight l.initial.sums l.sums l.k-index
+abbrev pub invariant-loop-v : goal.invariant-loop-v
+invariant-loop-v l = Tallying l.kind l.weight l.initial.sums l.sums l.v

@@ -3,5 +3,5 @@
 use Rattle.uses.proofs.TallyLaws.{Copied}
 use Rattle.uses.proofs.tally.widen.Given as goal
 
-abbrev pub invariant-loop-b : goal.invariant-loop-b
-invariant-loop-b l = Copied l.bytes l.initial.wide l.wide l.b-index
+abbrev pub invariant-loop-v : goal.invariant-loop-v
+invariant-loop-v l = Copied l.bytes l.initial.wide l.wide l.v
