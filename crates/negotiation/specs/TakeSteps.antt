@@ -124,16 +124,11 @@ pub record NetOpens (j : Job) (p : Progress) (i : ℕ) (delays criticalities : L
   pub users-is : users ≡ up_to (others_of j p.state.trees i) (nodes j)
   pub marks_is : marks ≡ marks_of j (source j i ∷ [])
 
--- it has done so in some job of these tables 1 to 4, 7, 9 and 10
-pub record SomeNet (kinds capacities first_edges edge_targets sinks delays criticalities : List ℕ) (timed : Bool) (from to i turns : ℕ)
-    (t : Tariff) (history users marks log : List ℕ) : Type 0 where
-  pub sources : List ℕ
-  pub first_sinks : List ℕ
-  pub terms : Terms
+-- it has done so behind some progress
+pub record SomeNet (j : Job) (delays criticalities : List ℕ) (timed : Bool) (from to i turns : ℕ) (t : Tariff)
+    (history users marks log : List ℕ) : Type 0 where
   pub progress : Progress
-  pub opens :
-      NetOpens (job_of kinds capacities first_edges edge_targets sources first_sinks sinks delays criticalities terms) progress i delays
-      criticalities timed from to turns t history users marks log
+  pub opens : NetOpens j progress i delays criticalities timed from to turns t history users marks log
 
 -- its turns follow: their tree is marked, and its source is on a path
 pub record NetOn (audit : Bool) (j : Job) (p : Progress) (i : ℕ) (t : Tariff) (marks log : List ℕ) : Type 0 where
@@ -164,16 +159,12 @@ NetTaken walk (Err (Off word)) j p i marks log = replay_turns walk.audit j log i
 NetTaken walk (Err (Ends told)) j p i marks log = NetEnds walk j p i log told ends
 NetTaken walk (Err (NotCheapest told cost least)) j p i marks log = NetEnds walk j p i log told (λ q. not_cheapest q cost least)
 
--- in every such job
+-- behind every such progress
 abbrev pub NetAnswered :
-    Walk → (kinds capacities first_edges edge_targets sinks delays criticalities : List ℕ) (timed : Bool) (from to i turns : ℕ) (t : Tariff)
+    Walk → (j : Job) (delays criticalities : List ℕ) (timed : Bool) (from to i turns : ℕ) (t : Tariff)
     (history users marks log : List ℕ) (r : Result Tariff Stopped) (marks' : List ℕ) → Type 0
-NetAnswered walk kinds capacities first_edges edge_targets sinks delays criticalities timed from to i turns t history users marks log r
-    marks' =
-    (sources first_sinks : List ℕ) (terms : Terms) (p : Progress)
-    → NetOpens (job_of kinds capacities first_edges edge_targets sources first_sinks sinks delays criticalities terms) p i delays
-    criticalities timed from to turns t history users marks log
-    → NetTaken walk r (job_of kinds capacities first_edges edge_targets sources first_sinks sinks delays criticalities terms) p i marks' log
+NetAnswered walk j delays criticalities timed from to i turns t history users marks log r marks' =
+    (p : Progress) → NetOpens j p i delays criticalities timed from to turns t history users marks log → NetTaken walk r j p i marks' log
 
 -- ---- the nets of an iteration
 
@@ -184,15 +175,10 @@ pub record NetsOpen (j : Job) (p : Progress) (t : Tariff) (history users marks f
   pub kept : Kept j p history users marks from to
   pub due-is : dues ≡ up_to (λ k. choose (due j p.state k) 1 0) (nets j)
 
--- under some terms, in a timed job or not
-pub record SomeNets (kinds capacities first_edges edge_targets sources first_sinks sinks delays criticalities : List ℕ) (timed : Bool)
-    (t : Tariff) (history users marks from to dues log : List ℕ) : Type 0 where
-  pub terms : Terms
-  pub timed_is : timed ≡ terms.timed
+-- at some progress
+pub record SomeNets (j : Job) (t : Tariff) (history users marks from to dues log : List ℕ) : Type 0 where
   pub progress : Progress
-  pub open_so :
-      NetsOpen (job_of kinds capacities first_edges edge_targets sources first_sinks sinks delays criticalities terms) progress t history
-      users marks from to dues log
+  pub open_so : NetsOpen j progress t history users marks from to dues log
 
 -- its first nets follow, up to q in the same iteration
 pub record NetsOn (audit : Bool) (j : Job) (p : Progress) (i : ℕ) (t : Tariff) (history users marks from to log : List ℕ) : Type 0 where
@@ -216,17 +202,12 @@ NetsTaken walk (Err (Ends told)) j p history users marks from to log = NetsEnd w
 NetsTaken walk (Err (NotCheapest told cost least)) j p history users marks from to log =
     NetsEnd walk j p log told (λ q. not_cheapest q cost least)
 
--- under all such terms
+-- behind every such progress
 abbrev pub NetsAnswered :
-    Walk → (kinds capacities first_edges edge_targets sources first_sinks sinks delays criticalities : List ℕ) (timed : Bool) (t : Tariff)
-    (history users marks from to dues log : List ℕ) (r : Result Tariff Stopped) (users' marks' from' to' : List ℕ) → Type 0
-NetsAnswered walk kinds capacities first_edges edge_targets sources first_sinks sinks delays criticalities timed t history users
-    marks from to dues log r users' marks' from' to' =
-    (terms : Terms) (p : Progress) → timed ≡ terms.timed
-    → NetsOpen (job_of kinds capacities first_edges edge_targets sources first_sinks sinks delays criticalities terms) p t history users
-    marks from to dues log
-    → NetsTaken walk r (job_of kinds capacities first_edges edge_targets sources first_sinks sinks delays criticalities terms) p history
-    users' marks' from' to' log
+    Walk → (j : Job) (t : Tariff) (history users marks from to dues log : List ℕ) (r : Result Tariff Stopped)
+    (users' marks' from' to' : List ℕ) → Type 0
+NetsAnswered walk j t history users marks from to dues log r users' marks' from' to' =
+    (p : Progress) → NetsOpen j p t history users marks from to dues log → NetsTaken walk r j p history users' marks' from' to' log
 
 -- ---- the iterations
 

@@ -2,7 +2,8 @@
 #![tactic(auto)]
 
 ghost use Rattle.std.specs.Prelude.{[], ◌≡◌, ◌*◌, ◌≤◌, length, take};
-ghost use Rattle.job.specs.Job.{job_of, nodes};
+ghost use Rattle.job.specs.Job.{nodes};
+ghost use Rattle.job.specs.Lent.{job_in};
 ghost use Rattle.negotiation.specs.Routable.{Routable};
 ghost use Rattle.negotiation.specs.Records.{decode};
 ghost use Rattle.negotiation.specs.Outcome.{refused_answer, route_reply_of, turns_logged, reached_reply, tested};
@@ -76,10 +77,20 @@ mod tariff;
 mod trees;
 mod turns;
 
-use job::{FIRST_SINKS_MOST, Terms};
+use job::{BadTable, FIRST_SINKS_MOST, JobTables};
 use reach::Missing;
 pub use refusals::refusal;
 use search::SINKS_MOST;
+
+impl From<BadTable> for Outcome {
+    ghost use Rattle.negotiation.specs.declared.Outcome.TheVariants as o;
+
+    ghost from_gives = { λ bad outcome. outcome ≡ o.BadTable bad.table };
+
+    fn from(bad: BadTable) -> Outcome {
+        Outcome::BadTable(bad.table)
+    }
+}
 
 // The answer of a call that is refused before any turn.
 fn refused(outcome: Outcome) -> RouteAnswer
@@ -96,57 +107,28 @@ fn refused(outcome: Outcome) -> RouteAnswer
 
 // Routes a job of joined nets, from iteration 1 or after so many words of a lent log: refusal 7, then the negotiation.
 fn route_joined(
-    kind: &[u8],
-    capacity: &[u8],
-    first_edge: &[u32],
-    edge_target: &[u16],
-    source: &[u16],
-    first_sink: &[u32],
-    sink: &[u16],
-    delay: &[u16],
-    criticality: &[u8],
-    terms: Terms,
+    job: &JobTables,
     start: Option<usize>,
     aimed: bool,
     work: &mut [u64],
     log: &mut [u32],
 ) -> RouteAnswer
-    requires { let job = job_of kind.now capacity.now first_edge.now edge_target.now source.now first_sink.now sink.now
-        delay.now criticality.now terms in
-        Routable job × (8 * nodes job ≤ length work.old) }
-    ensures answers { let job = job_of kind.now capacity.now first_edge.now edge_target.now
-        source.now first_sink.now sink.now delay.now criticality.now terms in
-        let run = run_from start job work.old log.old in
-        route_reply_of result work.new log.new ≡ reached_reply job work.old log.old run }
-    ensures expanded { let job = job_of kind.now capacity.now first_edge.now edge_target.now
-        source.now first_sink.now sink.now delay.now criticality.now terms in
+    requires { let asked = job_in job.now in
+        Routable asked × (8 * nodes asked ≤ length work.old) }
+    ensures answers { let asked = job_in job.now in
+        let run = run_from start asked work.old log.old in
+        route_reply_of result work.new log.new ≡ reached_reply asked work.old log.old run }
+    ensures expanded { let asked = job_in job.now in
         let made = turns_logged (route_reply_of result work.new log.new) in
-        result.expanded ≡ expanded_after aimed job (lent_records start log.old) made }
+        result.expanded ≡ expanded_after aimed asked (lent_records start log.old) made }
 {
-    match reach::unreachable(
-        kind,
-        first_edge,
-        edge_target,
-        source,
-        first_sink,
-        sink,
-        work,
-    ) {
+    match reach::unreachable(job, work) {
         Some(Missing { net, place }) => {
-            turns::clear(work, 8 * kind.len());
+            turns::clear(work, 8 * job.block.kind.len());
             refused(Outcome::Unreachable { net, place })
         }
         None => turns::negotiate(
-            kind,
-            capacity,
-            first_edge,
-            edge_target,
-            source,
-            first_sink,
-            sink,
-            delay,
-            criticality,
-            terms,
+            job,
             start,
             aimed,
             work,
@@ -157,44 +139,21 @@ fn route_joined(
 
 // The refusal of a job given as tables with so many entries of work memory, if any: 5, 15 or 6.
 fn refusal_of(
-    kind: &[u8],
-    capacity: &[u8],
-    first_edge: &[u32],
-    edge_target: &[u16],
-    source: &[u16],
-    first_sink: &[u32],
-    sink: &[u16],
-    delay: &[u16],
-    criticality: &[u8],
-    terms: Terms,
+    job: &JobTables,
     entries: usize,
 ) -> Result<(), Outcome>
-    ensures { let job = job_of kind.now capacity.now first_edge.now edge_target.now
-        source.now first_sink.now sink.now delay.now criticality.now terms in
-        result ≡ job_refusal job entries }
+    ensures { let asked = job_in job.now in
+        result ≡ job_refusal asked entries }
 {
-    let table = job::faulty_job(
-        kind,
-        capacity,
-        first_edge,
-        edge_target,
-        source,
-        first_sink,
-        sink,
-        delay,
-        criticality,
-        terms,
-    );
-    if 1 <= table {
-        return Err(Outcome::BadTable(table));
-    }
-    if job::exceeds(kind.len(), terms) {
+    job::faulty_job(job)?;
+    let n = job.block.kind.len();
+    if job::exceeds(n, job.terms) {
         return Err(Outcome::TooLarge {
-            nodes: kind.len() as u32,
-            limit: terms.limit,
+            nodes: n as u32,
+            limit: job.terms.limit,
         });
     }
-    let needed = 8 * kind.len();
+    let needed = 8 * n;
     if entries < needed {
         return Err(Outcome::ShortWork(needed as u64));
     }
@@ -204,70 +163,43 @@ fn refusal_of(
 // Routes a job given as tables, from iteration 1 or after so many words of a lent log: refusals 5, 15 and 6; then nets of one source are joined, and the joined
 // nets are routed.
 fn routed_from(
-    kind: &[u8],
-    capacity: &[u8],
-    first_edge: &[u32],
-    edge_target: &[u16],
-    source: &[u16],
-    first_sink: &[u32],
-    sink: &[u16],
-    delay: &[u16],
-    criticality: &[u8],
-    terms: Terms,
+    job: &JobTables,
     start: Option<usize>,
     aimed: bool,
     work: &mut [u64],
     log: &mut [u32],
 ) -> RouteAnswer
-    ensures answers { let job = job_of kind.now capacity.now first_edge.now edge_target.now
-        source.now first_sink.now sink.now delay.now criticality.now terms in
-        let run = run_from start (joined job) work.old log.old in
-        route_reply_of result work.new log.new ≡ tested job work.old log.old run }
-    ensures expanded { let job = job_of kind.now capacity.now first_edge.now edge_target.now
-        source.now first_sink.now sink.now delay.now criticality.now terms in
+    ensures answers { let asked = job_in job.now in
+        let run = run_from start (joined asked) work.old log.old in
+        route_reply_of result work.new log.new ≡ tested asked work.old log.old run }
+    ensures expanded { let asked = job_in job.now in
         let made = turns_logged (route_reply_of result work.new log.new) in
-        result.expanded ≡ expanded_after aimed (joined job) (lent_records start log.old) made }
+        result.expanded ≡ expanded_after aimed (joined asked) (lent_records start log.old) made }
 {
-    if let Err(outcome) = refusal_of(
-        kind,
-        capacity,
-        first_edge,
-        edge_target,
-        source,
-        first_sink,
-        sink,
-        delay,
-        criticality,
-        terms,
-        work.len(),
-    ) {
+    if let Err(outcome) = refusal_of(job, work.len()) {
         return refused(outcome);
     }
     let mut firsts = [0u32; FIRST_SINKS_MOST];
     let mut sinks = [0u16; SINKS_MOST];
     let mut criticalities = [0u8; SINKS_MOST];
-    let ends = source.len() + 1;
+    let ends = job.source.len() + 1;
     let count = join::joined_tables(
-        source,
-        first_sink,
-        sink,
-        criticality,
-        terms.timed,
+        job,
         &mut firsts,
         &mut sinks,
         &mut criticalities,
     );
+    let joined = JobTables {
+        block: job.block,
+        source: job.source,
+        first_sink: &firsts[..ends],
+        sink: &sinks[..count],
+        delay: job.delay,
+        criticality: &criticalities[..count],
+        terms: job.terms,
+    };
     route_joined(
-        kind,
-        capacity,
-        first_edge,
-        edge_target,
-        source,
-        &firsts[..ends],
-        &sinks[..count],
-        delay,
-        &criticalities[..count],
-        terms,
+        &joined,
         start,
         aimed,
         work,
@@ -278,39 +210,19 @@ fn routed_from(
 // Routes a job given as tables, by the search that aims or by the plain one. Demand 3 says all of it, whichever it is: answer, work slice
 // and log are those of `route_reply`, and what follows from that. The other clause counts the nodes that the search that aims expanded.
 pub fn route(
-    kind: &[u8],
-    capacity: &[u8],
-    first_edge: &[u32],
-    edge_target: &[u16],
-    source: &[u16],
-    first_sink: &[u32],
-    sink: &[u16],
-    delay: &[u16],
-    criticality: &[u8],
-    terms: Terms,
+    job: &JobTables,
     aimed: bool,
     work: &mut [u64],
     log: &mut [u32],
 ) -> RouteAnswer
-    ensures demand { let job = job_of kind.now capacity.now first_edge.now edge_target.now
-        source.now first_sink.now sink.now delay.now criticality.now terms in
-        Demand3 job work.old log.old (route_reply_of result work.new log.new) }
-    ensures expanded { let job = job_of kind.now capacity.now first_edge.now edge_target.now
-        source.now first_sink.now sink.now delay.now criticality.now terms in
+    ensures demand { let asked = job_in job.now in
+        Demand3 asked work.old log.old (route_reply_of result work.new log.new) }
+    ensures expanded { let asked = job_in job.now in
         let made = turns_logged (route_reply_of result work.new log.new) in
-        result.expanded ≡ expanded_after aimed (joined job) [] made }
+        result.expanded ≡ expanded_after aimed (joined asked) [] made }
 {
     routed_from(
-        kind,
-        capacity,
-        first_edge,
-        edge_target,
-        source,
-        first_sink,
-        sink,
-        delay,
-        criticality,
-        terms,
+        job,
         None,
         aimed,
         work,
@@ -321,40 +233,20 @@ pub fn route(
 // Goes on from the words used of a lent log, which must follow the job, by either search: answer, work slice and log are those of
 // `resume_reply`. The other clause counts the nodes expanded in the turns that were appended.
 pub fn resume(
-    kind: &[u8],
-    capacity: &[u8],
-    first_edge: &[u32],
-    edge_target: &[u16],
-    source: &[u16],
-    first_sink: &[u32],
-    sink: &[u16],
-    delay: &[u16],
-    criticality: &[u8],
-    terms: Terms,
+    job: &JobTables,
     aimed: bool,
     used: u64,
     work: &mut [u64],
     log: &mut [u32],
 ) -> RouteAnswer
-    ensures resumed { let job = job_of kind.now capacity.now first_edge.now edge_target.now
-        source.now first_sink.now sink.now delay.now criticality.now terms in
-        Resumed job used work.old log.old (route_reply_of result work.new log.new) }
-    ensures expanded { let job = job_of kind.now capacity.now first_edge.now edge_target.now
-        source.now first_sink.now sink.now delay.now criticality.now terms in
+    ensures resumed { let asked = job_in job.now in
+        Resumed asked used work.old log.old (route_reply_of result work.new log.new) }
+    ensures expanded { let asked = job_in job.now in
         let made = turns_logged (route_reply_of result work.new log.new) in
-        result.expanded ≡ expanded_after aimed (joined job) (decode (take used log.old)) made }
+        result.expanded ≡ expanded_after aimed (joined asked) (decode (take used log.old)) made }
 {
     routed_from(
-        kind,
-        capacity,
-        first_edge,
-        edge_target,
-        source,
-        first_sink,
-        sink,
-        delay,
-        criticality,
-        terms,
+        job,
         Some(used as usize),
         aimed,
         work,
@@ -365,64 +257,38 @@ pub fn resume(
 // Audits the words used of a log, whoever wrote it, against a job given as tables: answer and work slice are those of `audit_reply`, and
 // what follows from that. The log is only read.
 pub fn audit(
-    kind: &[u8],
-    capacity: &[u8],
-    first_edge: &[u32],
-    edge_target: &[u16],
-    source: &[u16],
-    first_sink: &[u32],
-    sink: &[u16],
-    delay: &[u16],
-    criticality: &[u8],
-    terms: Terms,
+    job: &JobTables,
     used: u64,
     work: &mut [u64],
     log: &[u32],
 ) -> AuditAnswer
-    ensures audited { let job = job_of kind.now capacity.now first_edge.now edge_target.now
-        source.now first_sink.now sink.now delay.now criticality.now terms in
-        Audited job used work.old log.now (audit_reply_of result work.new) }
+    ensures audited { let asked = job_in job.now in
+        Audited asked used work.old log.now (audit_reply_of result work.new) }
 {
-    if let Err(outcome) = refusal_of(
-        kind,
-        capacity,
-        first_edge,
-        edge_target,
-        source,
-        first_sink,
-        sink,
-        delay,
-        criticality,
-        terms,
-        work.len(),
-    ) {
+    if let Err(outcome) = refusal_of(job, work.len()) {
         return audit_log::refused(outcome);
     }
     let mut firsts = [0u32; FIRST_SINKS_MOST];
     let mut sinks = [0u16; SINKS_MOST];
     let mut criticalities = [0u8; SINKS_MOST];
-    let ends = source.len() + 1;
+    let ends = job.source.len() + 1;
     let count = join::joined_tables(
-        source,
-        first_sink,
-        sink,
-        criticality,
-        terms.timed,
+        job,
         &mut firsts,
         &mut sinks,
         &mut criticalities,
     );
+    let joined = JobTables {
+        block: job.block,
+        source: job.source,
+        first_sink: &firsts[..ends],
+        sink: &sinks[..count],
+        delay: job.delay,
+        criticality: &criticalities[..count],
+        terms: job.terms,
+    };
     audit_log::audit_joined(
-        kind,
-        capacity,
-        first_edge,
-        edge_target,
-        source,
-        &firsts[..ends],
-        &sinks[..count],
-        delay,
-        &criticalities[..count],
-        terms,
+        &joined,
         used as usize,
         work,
         log,

@@ -2,8 +2,9 @@
 // each turn is held against the search too.
 ghost use Rattle.std.specs.Prelude.{◌≡◌, ℕ, ◌+◌, ◌*◌, ◌≤◌, ◌<◌, leb, length, drop};
 ghost use Rattle.price.specs.Test.{both};
-ghost use Rattle.search.specs.Block.{block_of};
-ghost use Rattle.job.specs.Job.{job_of, nodes};
+ghost use Rattle.search.specs.Lent.{block_in};
+ghost use Rattle.job.specs.Job.{nodes};
+ghost use Rattle.job.specs.Lent.{job_in};
 ghost use Rattle.negotiation.specs.Routable.{Routable};
 ghost use Rattle.negotiation.specs.Outcome.{first_progress};
 ghost use Rattle.job.specs.Steps.{AllBelow, Stored};
@@ -17,8 +18,8 @@ ghost use Rattle.negotiation.specs.TakeSteps.{SomeNet, NetAnswered, SomeNets, Ne
 
 use crate::tariff::Tariff;
 use crate::{congestion, due, flood, follow, nets, order, tariff};
-use job::Terms;
-use search::NODES_MOST;
+use job::JobTables;
+use search::{NODES_MOST, Prices};
 
 // What is asked of a log besides that it follows the job: nothing where it is taken up, by an audit that each turn be a cheapest one. An
 // audit tells how many nodes were over capacity after the last whole iteration.
@@ -111,14 +112,7 @@ fn judged(log: &[u32], t: Tariff, over: u32, count: Option<usize>, least: u64) -
 // The words of the next record of a net, whose sinks stand in table 7 from one place to below another, or why the log stops before it; the
 // path of one that follows is marked.
 fn follow_tried(
-    kind: &[u8],
-    capacity: &[u8],
-    first_edge: &[u32],
-    edge_target: &[u16],
-    sink: &[u16],
-    delay: &[u16],
-    criticality: &[u8],
-    timed: bool,
+    job: &JobTables,
     from: usize,
     to: usize,
     net: u32,
@@ -131,19 +125,19 @@ fn follow_tried(
     log: &[u32],
 ) -> Result<usize, Stopped>
     requires begun { 1 ≤ tariff.iteration }
-    requires ready { let block = block_of kind.now capacity.now first_edge.now edge_target.now in
-        TryReady block sink.now delay.now criticality.now timed from to tariff history.now users.now in_tree.old work.old
-        log.now }
-    ensures value { let block = block_of kind.now capacity.now first_edge.now edge_target.now in
+    requires ready { let j = job.now in
+        TryReady (block_in j.block) j.sink.now j.delay.now j.criticality.now j.terms.timed from to tariff history.now users.now
+        in_tree.old work.old log.now }
+    ensures value { let j = job.now in
         let ws = drop tariff.words log.now in
-        let passes = tried_passes block sink.now delay.now criticality.now timed from to tariff net
+        let passes = tried_passes (block_in j.block) j.sink.now j.delay.now j.criticality.now j.terms.timed from to tariff net
         history.now users.now in_tree.old ws in
-        let least = tried_least block sink.now delay.now criticality.now timed from to tariff walk.audit
+        let least = tried_least (block_in j.block) j.sink.now j.delay.now j.criticality.now j.terms.timed from to tariff walk.audit
         history.now users.now in_tree.old in
         result ≡ tried_as tariff walk (leb (length log.now) tariff.words) passes ws least }
     ensures stored { let ws = drop tariff.words log.now in
         ((count : ℕ) → result ≡ Ok count → Stored 1 (record_path ws) in_tree.old in_tree.new) }
-    ensures same_from { SameFrom (8 * length kind.now) work.old work.new }
+    ensures same_from { SameFrom (8 * length job.now.block.kind.now) work.old work.new }
 {
     if ends_here(walk.audit, tariff.words, log.len()) {
         return Err(Stopped::Ends(came_to(
@@ -152,39 +146,24 @@ fn follow_tried(
             walk.over,
         )));
     }
-    let n = kind.len();
+    let n = job.block.kind.len();
     let mut goals = [0u8; NODES_MOST];
-    let tried = order::next_tried(timed, sink, criticality, from, to, in_tree);
-    let a = tried.from;
-    let e = tried.to;
-    set_goals(&sink[a..e], &mut goals[..n]);
-    let factor = tariff.factor;
-    let least = follow::least_cost(
-        walk.audit,
-        kind,
-        capacity,
-        first_edge,
-        edge_target,
-        tried.weighting,
-        delay,
-        factor,
-        work,
+    let tried = order::next_tried(job, from, to, in_tree);
+    let sinks = &job.sink[tried.from..tried.to];
+    set_goals(sinks, &mut goals[..n]);
+    let prices = Prices {
+        weighting: tried.weighting,
+        delay: job.delay,
+        factor: tariff.factor,
         history,
-        users,
-        in_tree,
-        &sink[a..e],
-    );
+        others: users,
+    };
+    let least = follow::least_cost(walk.audit, &job.block, &prices, work, in_tree, sinks);
     let count = follow::follow_turn(
-        kind,
-        capacity,
-        first_edge,
-        edge_target,
-        tried.weighting,
-        delay,
+        &job.block,
+        &prices,
         net,
         tariff,
-        history,
-        users,
         &goals[..n],
         in_tree,
         log,
@@ -194,14 +173,7 @@ fn follow_tried(
 
 // So many turns of a net, at most, until its sinks are joined.
 fn follow_net(
-    kind: &[u8],
-    capacity: &[u8],
-    first_edge: &[u32],
-    edge_target: &[u16],
-    sink: &[u16],
-    delay: &[u16],
-    criticality: &[u8],
-    timed: bool,
+    job: &JobTables,
     from: usize,
     to: usize,
     net: u32,
@@ -214,34 +186,28 @@ fn follow_net(
     work: &mut [u64],
     log: &[u32],
 ) -> Result<Tariff, Stopped>
-    requires { 0 < turns
-        → SomeNet kind.now capacity.now first_edge.now edge_target.now sink.now delay.now criticality.now timed from to
-        net turns begun history.now users.now in_tree.old log.now × (8 * length kind.now ≤ length work.old) }
+    requires { let j = job.now in
+        (0 < turns
+        → SomeNet (job_in j) j.delay.now j.criticality.now j.terms.timed from to net turns begun history.now users.now
+        in_tree.old log.now × (8 * length j.block.kind.now ≤ length work.old)) }
     ensures value { turns ≡ 0 → (result ≡ Ok begun) × (in_tree.new ≡ in_tree.old) }
-    ensures net_answered { NetAnswered walk kind.now capacity.now first_edge.now edge_target.now
-        sink.now delay.now criticality.now timed from to net turns begun history.now
+    ensures net_answered { let j = job.now in
+        NetAnswered walk (job_in j) j.delay.now j.criticality.now j.terms.timed from to net turns begun history.now
         users.now in_tree.old log.now result in_tree.new }
-    ensures same_from { SameFrom (8 * length kind.now) work.old work.new }
+    ensures same_from { SameFrom (8 * length job.now.block.kind.now) work.old work.new }
 {
     if turns == 0 {
         return Ok(begun);
     }
     let mut tariff = begun;
     let mut left = turns;
-    let mut place = flood::missing_sink(in_tree, &sink[from..to], 0);
+    let mut place = flood::missing_sink(in_tree, &job.sink[from..to], 0);
     while place < to - from {
         if left == 0 {
             return Err(Stopped::Off(tariff.words));
         }
         let count = follow_tried(
-            kind,
-            capacity,
-            first_edge,
-            edge_target,
-            sink,
-            delay,
-            criticality,
-            timed,
+            job,
             from,
             to,
             net,
@@ -255,23 +221,14 @@ fn follow_net(
         )?;
         tariff = tariff::turn_logged(tariff, count, 0);
         left -= 1;
-        place = flood::missing_sink(in_tree, &sink[from..to], place);
+        place = flood::missing_sink(in_tree, &job.sink[from..to], place);
     }
     Ok(tariff)
 }
 
 // The nets of an iteration, in order.
 fn follow_nets(
-    kind: &[u8],
-    capacity: &[u8],
-    first_edge: &[u32],
-    edge_target: &[u16],
-    source: &[u16],
-    first_sink: &[u32],
-    sink: &[u16],
-    delay: &[u16],
-    criticality: &[u8],
-    timed: bool,
+    job: &JobTables,
     begun: Tariff,
     walk: Walk,
     history: &[u32],
@@ -283,33 +240,22 @@ fn follow_nets(
     work: &mut [u64],
     log: &[u32],
 ) -> Result<Tariff, Stopped>
-    requires { SomeNets kind.now capacity.now first_edge.now edge_target.now source.now first_sink.now sink.now
-        delay.now criticality.now timed begun history.now users.old in_tree.old tree_from.old tree_to.old due.now
-        log.now × (8 * length kind.now ≤ length work.old) }
-    ensures same_from { SameFrom (8 * length kind.now) work.old work.new }
-    ensures nets_answered { NetsAnswered walk kind.now capacity.now first_edge.now edge_target.now
-        source.now first_sink.now sink.now delay.now criticality.now timed begun
-        history.now users.old in_tree.old tree_from.old tree_to.old
-        due.now log.now result users.new in_tree.new tree_from.new
-        tree_to.new }
+    requires { SomeNets (job_in job.now) begun history.now users.old in_tree.old tree_from.old tree_to.old due.now log.now
+        × (8 * length job.now.block.kind.now ≤ length work.old) }
+    ensures same_from { SameFrom (8 * length job.now.block.kind.now) work.old work.new }
+    ensures nets_answered { NetsAnswered walk (job_in job.now) begun history.now users.old in_tree.old tree_from.old tree_to.old
+        due.now log.now result users.new in_tree.new tree_from.new tree_to.new }
 {
     let mut tariff = begun;
-    for net in 0..source.len() {
-        let from = first_sink[net] as usize;
-        let to = first_sink[net + 1] as usize;
+    for net in 0..job.source.len() {
+        let from = job.first_sink[net] as usize;
+        let to = job.first_sink[net + 1] as usize;
         let first = tariff.words;
         let turns = nets::begin_net(
-            log, source, first_sink, net, due, tree_from, tree_to, users, in_tree,
+            job, log, net, due, tree_from, tree_to, users, in_tree,
         );
         tariff = follow_net(
-            kind,
-            capacity,
-            first_edge,
-            edge_target,
-            sink,
-            delay,
-            criticality,
-            timed,
+            job,
             from,
             to,
             net as u32,
@@ -349,16 +295,7 @@ fn whole_iteration(audit: bool, t: Tariff, over: u32, limit: u32, len: usize) ->
 
 // The iterations, up to the log's end.
 pub fn take_up(
-    kind: &[u8],
-    capacity: &[u8],
-    first_edge: &[u32],
-    edge_target: &[u16],
-    source: &[u16],
-    first_sink: &[u32],
-    sink: &[u16],
-    delay: &[u16],
-    criticality: &[u8],
-    terms: Terms,
+    job: &JobTables,
     audit: bool,
     begun: Tariff,
     history: &mut [u32],
@@ -370,37 +307,25 @@ pub fn take_up(
     work: &mut [u64],
     log: &[u32],
 ) -> Result<Tariff, Stopped>
-    requires { let job = job_of kind.now capacity.now first_edge.now edge_target.now source.now first_sink.now sink.now
-        delay.now criticality.now terms in
-        Routable job × (8 * nodes job ≤ length work.old)
-        × Ready job (first_progress job) begun history.old users.old in_tree.old tree_from.old tree_to.old due.old
+    requires { let asked = job_in job.now in
+        Routable asked × (8 * nodes asked ≤ length work.old)
+        × Ready asked (first_progress asked) begun history.old users.old in_tree.old tree_from.old tree_to.old due.old
         log.now }
-    ensures taken { let job = job_of kind.now capacity.now first_edge.now edge_target.now
-        source.now first_sink.now sink.now delay.now criticality.now
-        terms in
-        LogTaken audit result job history.new users.new in_tree.new tree_from.new
+    ensures taken { let asked = job_in job.now in
+        LogTaken audit result asked history.new users.new in_tree.new tree_from.new
         tree_to.new due.new log.now }
-    ensures same_from { SameFrom (8 * length kind.now) work.old work.new }
+    ensures same_from { SameFrom (8 * length job.now.block.kind.now) work.old work.new }
 {
     let mut tariff = begun;
     let mut over = 0u32;
     let mut more = true;
     while more {
         due::mark_due(
-            terms, tariff, capacity, first_sink, log, tree_from, tree_to, users, due,
+            job, tariff, log, tree_from, tree_to, users, due,
         );
         let walk = Walk { audit, over };
         let t = follow_nets(
-            kind,
-            capacity,
-            first_edge,
-            edge_target,
-            source,
-            first_sink,
-            sink,
-            delay,
-            criticality,
-            terms.timed,
+            job,
             tariff,
             walk,
             history,
@@ -412,10 +337,10 @@ pub fn take_up(
             work,
             log,
         )?;
-        over = congestion::over_count(capacity, users);
-        let next = whole_iteration(audit, t, over, terms.limit, log.len())?;
-        congestion::grow_histories(terms.tuning, capacity, users, history);
-        tariff = tariff::iteration_started(tariff::iteration_ended(next, terms.tuning));
+        over = congestion::over_count(job.block.capacity, users);
+        let next = whole_iteration(audit, t, over, job.terms.limit, log.len())?;
+        congestion::grow_histories(job.terms.tuning, job.block.capacity, users, history);
+        tariff = tariff::iteration_started(tariff::iteration_ended(next, job.terms.tuning));
         more = tariff.words < log.len();
     }
     Ok(tariff)
