@@ -1,7 +1,7 @@
 -- What the two calls answer, from what the test of the counts found.
 -- Assumes nothing.
 use mathlib.Core.List.{List, [], ◌∷◌}
-use mathlib.Core.Path.{◌≡◌, refl, sym, ◌∙◌}
+use mathlib.Core.Path.{◌≡◌, sym, ◌∙◌}
 use Prim.Native.Nat.{ℕ}
 use native.Mathlib.Nat.{le_trans}
 use native.Mathlib.Omega.{arith}
@@ -12,8 +12,6 @@ use Rattle.uses.specs.Uses.{uses_in, nodes_of, capacity_of, UseCounts, counts_re
 use Rattle.uses.specs.Steps.{count_most, AtMost, test_refusal, add_due, print_due}
 use Rattle.uses.specs.declared.counts.CountsRefusal.{CountsRefusal}
 use Rattle.uses.specs.declared.counts.CountsRefusal.TheVariants as t
-use Rattle.uses.specs.declared.AddRefusal.{AddRefusal}
-use Rattle.uses.specs.declared.PrintRefusal.{PrintRefusal}
 use Rattle.uses.proofs.SumLaws.{kind_nodes_most}
 use Rattle.uses.proofs.CountsLaws.{few-nodes, product_fits}
 use Rattle.uses.proofs.UsesHold.{Fine, passes_fine}
@@ -31,10 +29,10 @@ module _ (b : Block) (c : UseCounts) where
   -- ---- printing
 
   module _ (buffer : List ℕ) where
-    pub print_refused : {r : PrintRefusal} (due : CountsRefusal) → r ≡ print_due due → test_refusal (Err due) ≡ counts_refusal b c → print_reply_of (Err r) buffer ≡ print_reply b c buffer
+    pub print_refused : (due : CountsRefusal) → test_refusal (Err due) ≡ counts_refusal b c → print_reply_of (Err (print_due due)) buffer ≡ print_reply b c buffer
     unfolding print_reply
-    print_refused (t.BadTable table) e is = rw (e, ← is) refl
-    print_refused (t.BadCount kind) e is = rw (e, ← is) refl
+    print_refused (t.BadTable table) is = rw (← is)
+    print_refused (t.BadCount kind) is = rw (← is)
 
     -- the text rests on kinds and capacities alone
     pub print_fine : {reply : WriteReply} → [] ≡ counts_refusal b c → reply ≡ text_reply (uses_text (block_of b.kinds b.capacities [] []) c) buffer → reply ≡ print_reply b c buffer
@@ -44,10 +42,10 @@ module _ (b : Block) (c : UseCounts) where
   -- ---- adding
 
   module _ (log : List ℕ) where
-    pub add_refused : {r : AddRefusal} (due : CountsRefusal) → r ≡ add_due due → test_refusal (Err due) ≡ counts_refusal b c → add_reply_of c.logs (Err r) c.uses ≡ add_reply b c log
+    pub add_refused : (due : CountsRefusal) → test_refusal (Err due) ≡ counts_refusal b c → add_reply_of c.logs (Err (add_due due)) c.uses ≡ add_reply b c log
     unfolding add_reply
-    add_refused (t.BadTable table) e is = rw (e, ← is) refl
-    add_refused (t.BadCount kind) e is = rw (e, ← is) refl
+    add_refused (t.BadTable table) is = rw (← is)
+    add_refused (t.BadCount kind) is = rw (← is)
 
     -- a log is added by the kinds alone
     pub add_fine : {reply : AddReply} → [] ≡ counts_refusal b c → reply ≡ tested_reply (block_of b.kinds [] [] []) c log → reply ≡ add_reply b c log

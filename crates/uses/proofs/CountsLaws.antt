@@ -2,11 +2,11 @@
 -- Assumes nothing.
 use mathlib.Core.Bool.{Bool, true, false}
 use mathlib.Core.List.{List, [], ◌∷◌}
-use mathlib.Core.Path.{◌≡◌, refl, sym, ◌∙◌}
+use mathlib.Core.Path.{◌≡◌, refl, sym, ◌∙◌, ap}
 use Prim.Native.Nat.{ℕ, zero, suc, ◌+◌, ◌*◌, ◌≤◌, ◌<◌}
 use native.Mathlib.Nat.{mul-le-mul}
 use native.Mathlib.Omega.{arith}
-use Rattle.std.specs.Prelude.{Ok, Err}
+use Rattle.std.specs.Prelude.{Result, Ok, Err}
 use lib.ListN.{get_or, replicate, get_or-replicate}
 use borrow.Author.Tests.{le-leb, lt-leb, lt-ltb, le-ltb}
 use borrow.Author.Count.{below_more}
@@ -85,10 +85,19 @@ no_fault b = passed (faulty_table b) where
   passed zero e = refl
   passed (suc n) e = cc e
 
+table_of : Result (Unit {0}) BadTable → ℕ
+table_of (Ok _) = 0
+table_of (Err bad) = bad.table
+
+fault : (bad : BadTable) (table : ℕ) → Err bad ≡ tested table → (bad.table ≡ table) × (1 ≤ bad.table)
+unfolding table_of
+fault bad zero e = cc e
+fault bad (suc n) e = let is : bad.table ≡ suc n = ap table_of e in (is, omega (arith, is))
+
 module _ (b : Block) (c : UseCounts) where
   pub refused_table : (bad : BadTable) → Err bad ≡ tested (faulty_table b) → 5 ∷ bad.table ∷ [] ≡ counts_refusal b c
   unfolding counts_refusal
-  refused_table bad e = ?
+  refused_table bad e = let f = fault bad (faulty_table b) e in rw (← f.0, le-leb 1 bad.table f.1)
 
   pub refused-logs : faulty_table b ≡ 0 → logs_most < c.logs → 13 ∷ kind_count ∷ [] ≡ counts_refusal b c
   unfolding counts_refusal

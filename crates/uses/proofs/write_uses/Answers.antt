@@ -1,6 +1,7 @@
 -- `write_uses` meets its contract: what the test of the counts refuses, else the text.
 -- Assumes nothing.
 use native.Mathlib.Omega.{arith}
+use Rattle.std.proofs.lemmas.Result.{err_from_is_err_and}
 use Rattle.search.specs.Lent.{block_in}
 use Rattle.search.proofs.BlockLaws.{sound_of}
 use Rattle.uses.specs.Uses.{use_counts_of}
@@ -8,7 +9,9 @@ use Rattle.uses.proofs.AnswerLaws.{test_fine, print_refused, print_fine}
 use Rattle.uses.proofs.write_uses.Goals as goal
 
 pub returns-in_err-test_counts : goal.returns-in_err-test_counts
-returns-in_err-test_counts c = ?
+returns-in_err-test_counts c =
+    let p = err_from_is_err_and c.from_residual.result c.from_residual.ensures.1 in
+    record { answers = rw (p.1, p.2) (print_refused _ _ _ _ c.in_err-test_counts.ensures) }
 
 pub put_uses-requires : goal.put_uses-requires
 put_uses-requires c =

@@ -1,9 +1,10 @@
 -- `counts::test_counts` meets its contract: the tables first, then the logs, then each kind by the nodes counted.
 -- Assumes nothing.
-use mathlib.Core.Path.{refl, sym, ◌∙◌}
+use mathlib.Core.Path.{refl}
 use Prim.Native.Nat.{ℕ}
 use native.Mathlib.Omega.{arith}
 use lib.ListN.{get_or-replicate}
+use Rattle.std.proofs.lemmas.Result.{err_from_is_err_and}
 use Rattle.search.specs.Lent.{block_in}
 use Rattle.search.proofs.BlockLaws.{sound_of}
 use Rattle.uses.specs.Uses.{kind_count}
@@ -13,7 +14,9 @@ use Rattle.std.proofs.Common.{rules}
 use Rattle.uses.proofs.counts.test_counts.Goals as goal
 
 pub returns-in_err-faulty_block : goal.returns-in_err-faulty_block
-returns-in_err-faulty_block c = ?
+returns-in_err-faulty_block c =
+    let p = err_from_is_err_and c.from_residual.result c.from_residual.ensures.1 in
+    rw (p.1, p.2) (refused_table (block_in c.args.tables.now) _ _ c.in_err-faulty_block.ensures)
 
 pub returns-then-logs-gt-LOGS_MOST : goal.returns-then-logs-gt-LOGS_MOST
 returns-then-logs-gt-LOGS_MOST c = refused-logs _ _ (no_fault (block_in c.args.tables.now) c.in_ok-faulty_block.ensures) (search rules)
