@@ -45,7 +45,7 @@ module _ (kinds log : List ℕ) where
   abbrev block : Block
   block = block_of kinds [] [] []
 
-  module _ (before : List ℕ) {r : Result SoundLog UnsoundLog} {users : List ℕ} (answered : users_reply_of r users ≡ users_reply (below_nodes (length kinds)) log before) where
+  module _ (before : List ℕ) (r : Result SoundLog UnsoundLog) {users : List ℕ} (answered : users_reply_of r users ≡ users_reply (below_nodes (length kinds)) log before) where
     checked_is : checked_at r ≡ log_checked (of_block block) log
     unfolding users_reply
     checked_is = ap (λ (u : UsersReply). u.checked) answered
@@ -55,11 +55,11 @@ module _ (kinds log : List ℕ) where
       → add_reply_with (10 ∷ unsound.word ∷ []) c ≡ tested_reply block c log
   unfolding tested_reply
   add-unsound before c {unsound} {users} answered =
-      let f = found_none (of_block block) log (checked_is before {r = Err unsound} {users = users} answered) in rw (f.0, f.1)
+      let f = found_none (of_block block) log (checked_is before (Err unsound) answered) in rw (f.0, f.1)
 
   module _ (before : List ℕ) {sound : SoundLog} {users : List ℕ} (answered : users_reply_of (Ok sound) users ≡ users_reply (below_nodes (length kinds)) log before) where
     taken : log_sound (of_block block) log ≡ true
-    taken = (found (of_block block) log (λ i t. ltb-true i nets_most t) (min-le_right (length kinds) nodes_most) (checked_is before {r = Ok sound} {users = users} answered)).0
+    taken = (found (of_block block) log (λ i t. ltb-true i nets_most t) (min-le_right (length kinds) nodes_most) (checked_is before (Ok sound) answered)).0
 
     pub add_full : (c : UseCounts) → logs_most ≤ c.logs → add_reply_with (16 ∷ logs_most ∷ []) c ≡ tested_reply block c log
     unfolding tested_reply
