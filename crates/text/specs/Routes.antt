@@ -186,12 +186,16 @@ tested_reply text sources log buffer =
 abbrev pub write_reply : List ℕ → List ℕ → List ℕ → WriteReply
 write_reply sources log buffer = tested_reply routes_text sources log buffer
 
--- 01's numbers for each case of the answer
+-- 01's numbers for each refusal
+abbrev pub write_numbers : WriteRefusal → List ℕ
+write_numbers (BadTable table) = 5 ∷ table ∷ []
+write_numbers (Unsound word) = 10 ∷ word ∷ []
+write_numbers (ShortBuffer needed) = 11 ∷ needed ∷ []
+
+-- and for each case of the answer
 abbrev pub write_refusal : Result ℕ WriteRefusal → List ℕ
 write_refusal (Ok bytes) = []
-write_refusal (Err (BadTable table)) = 5 ∷ table ∷ []
-write_refusal (Err (Unsound word)) = 10 ∷ word ∷ []
-write_refusal (Err (ShortBuffer needed)) = 11 ∷ needed ∷ []
+write_refusal (Err refusal) = write_numbers refusal
 
 abbrev pub written_bytes : Result ℕ WriteRefusal → ℕ
 written_bytes (Ok bytes) = bytes

@@ -67,6 +67,27 @@ impl From<UnsoundLog> for WriteRefusal {
     }
 }
 
+impl From<WriteRefusal> for Refused {
+    ghost use Rattle.std.specs.Prelude.{◌≡◌};
+    ghost use Rattle.job.specs.Refused.{refused_numbers};
+    ghost use Rattle.text.specs.Routes.{write_numbers};
+
+    ghost from_gives = { λ refusal refused. refused_numbers refused ≡ write_numbers refusal };
+
+    fn from(refusal: WriteRefusal) -> Refused {
+        let (number, first) = match refusal {
+            WriteRefusal::BadTable(table) => (5, table as u64),
+            WriteRefusal::Unsound(word) => (10, word as u64),
+            WriteRefusal::ShortBuffer(needed) => (11, needed),
+        };
+        Refused {
+            number,
+            first,
+            second: None,
+        }
+    }
+}
+
 mod bounds;
 mod branches;
 mod copy;
@@ -90,7 +111,7 @@ mod tuning;
 mod users;
 
 pub use fields::byte_is;
-use job::{FIRST_SINKS_MOST, NETS_MOST, Terms};
+use job::{FIRST_SINKS_MOST, NETS_MOST, Refused, Terms};
 use latest::Latest;
 pub use log_check::{SoundLog, UnsoundLog};
 pub use printing::print_line;

@@ -39,6 +39,7 @@ fn path_sound(nodes: usize, words: &[u32], n: usize, sink: u32) -> bool
 }
 
 // The net bears the mark 1.
+#[tactic(auto, using(crate::proofs::RecordTestLaws::marked_none), unfolding(crate::specs::WriteSteps::net_marked))]
 fn net_marked(marks: &[u8], net: u32) -> bool
     ensures { result ≡ net_marked marks.now net }
 {
@@ -47,6 +48,7 @@ fn net_marked(marks: &[u8], net: u32) -> bool
 
 // The record that begins these words is whole and sound, after one of this iteration, its net is marked and its nodes are below the
 // bound.
+#[tactic(auto, unfolding(crate::specs::Routes::record_sound))]
 fn record_sound(marks: &[u8], nodes: usize, words: &[u32], last: u32) -> bool
     ensures { result ≡ record_sound (named_by marks.now nodes) last words.now }
 {

@@ -21,7 +21,7 @@ use Rattle.text.specs.Users.{log_checked, checked_at, below_nodes, nets_with, us
 use Rattle.text.specs.WriteSteps.{AllSound, LogTested, net_marked, named_by}
 use Rattle.text.specs.declared.log_check.SoundLog.{SoundLog}
 use Rattle.text.specs.declared.log_check.UnsoundLog.{UnsoundLog}
-use Rattle.text.proofs.RecordTestLaws.{marked-none}
+use Rattle.text.proofs.RecordTestLaws.{marked_none}
 use Rattle.text.proofs.LogLaws.{found, found_none}
 
 -- where every net below 512 is marked, all of them may have records
@@ -30,7 +30,7 @@ unfolding net_marked
 all-marked =
     fun_ext (λ i.
     ⊎_elim
-    (λ (l : nets_most ≤ i). marked-none (replicate nets_most 1) i (rw (length-replicate {A = ℕ} nets_most 1) l) ∙ sym (le-ltb i nets_most l))
+    (λ (l : nets_most ≤ i). marked_none (replicate nets_most 1) i (rw (length-replicate {A = ℕ} nets_most 1) l) ∙ sym (le-ltb i nets_most l))
     (λ (l : i < nets_most). rw (get_or-replicate {A = ℕ} nets_most i 1 0 l) (sym (lt-ltb i nets_most l)))
     (le_or_lt nets_most i))
 

@@ -10,8 +10,5 @@ loop-k-init c = putting_none _ _ _ _ _ (search rules)
 pub loop-k-preserved : goal.loop-k-preserved
 loop-k-preserved c = putting_more c.loop-k.invariant (search rules) c.fill_branch-next.ensures
 
-pub shape_of-buffer : goal.shape_of-buffer
-shape_of-buffer c = c.loop-k.invariant.writing.filled.kept
-
 pub returns : goal.returns
 returns c = putting_all c.loop-k.invariant (search rules)

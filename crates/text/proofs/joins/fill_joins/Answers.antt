@@ -16,8 +16,5 @@ loop-net-preserved c =
       | else-first-net w ↦ rw (w.buffer-is, w.next-is) (joins_first c.loop-net.invariant (search rules) c.first_of-first.ensures w.if-first-net.false)
     ]
 
-pub shape_of-buffer : goal.shape_of-buffer
-shape_of-buffer c = c.loop-net.invariant.filled.kept
-
 pub returns : goal.returns
 returns c = joins-all c.loop-net.invariant (search rules)

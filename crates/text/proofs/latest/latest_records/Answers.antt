@@ -2,7 +2,6 @@
 -- Assumes nothing.
 use mathlib.Core.Path.{refl}
 use Prim.Native.Nat.{◌<◌}
-use native.Mathlib.Omega.{arith}
 use Rattle.std.proofs.Common.{rules}
 use Rattle.job.specs.Tables.{nets_most}
 use Rattle.job.proofs.SinkMarkLaws.{unmarked_new}
@@ -35,9 +34,6 @@ bounds-to-net-in-loop-at c = few (goal.at.bounds-to-net-in-loop-at c).After-reco
 
 pub begins_anew-requires : goal.begins_anew-requires
 begins_anew-requires c = (finding_from c.loop-at.invariant c.loop-at-test.true c.record_at-record.ensures, c.loop-at-test.true)
-
-pub loop-at-smaller : goal.loop-at-smaller
-loop-at-smaller c = omega (arith, c.record_at-record.ensures.end-is, rest_fits c.loop-at.invariant.rest c.loop-at-test.true)
 
 pub loop-at-preserved : goal.loop-at-preserved
 loop-at-preserved c =

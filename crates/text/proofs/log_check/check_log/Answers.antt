@@ -5,7 +5,6 @@ use Rattle.std.proofs.Common.{ap}
 use mathlib.Core.Bool.{true}
 use mathlib.Core.Path.{◌≡◌, sym, ◌∙◌}
 use Prim.Native.Nat.{◌≤◌}
-use native.Mathlib.Omega.{arith}
 use lib.ListN.{length, drop}
 use Rattle.std.proofs.Common.{rules}
 use borrow.Author.Tests.{not-true, not-false}
@@ -33,12 +32,6 @@ returns-then-not-record_sound c =
 
 pub record_at-record-requires : goal.record_at-record-requires
 record_at-record-requires c = next (goal.at.record_at-record-requires c).Else-not-record_sound
-
-pub overflow_add-turns : goal.overflow_add-turns
-overflow_add-turns c = omega (arith, next (goal.at.overflow_add-turns c).Else-not-record_sound)
-
-pub loop-at-smaller : goal.loop-at-smaller
-loop-at-smaller c = omega (arith, c.record_at-record.ensures.end-is, next (goal.at.loop-at-smaller c).Else-not-record_sound)
 
 pub loop-at-preserved : goal.loop-at-preserved
 loop-at-preserved c = checking_next c.loop-at.invariant (here (goal.at.loop-at-preserved c).Else-not-record_sound) c.record_at-record.ensures

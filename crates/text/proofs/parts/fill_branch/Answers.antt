@@ -6,6 +6,3 @@ use Rattle.text.proofs.parts.fill_branch.Goals as goal
 pub returns-in-Lines : goal.returns-in-Lines
 unfolding branch_line
 returns-in-Lines c = rw c.in-Lines.is c.fill_line.ensures
-
-pub returns-in-Picture : goal.returns-in-Picture
-returns-in-Picture c = rw c.in-Picture.is c.fill_dot.ensures

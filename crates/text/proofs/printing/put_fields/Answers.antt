@@ -1,11 +1,8 @@
 -- `printing::put_fields` meets its contract. The loop's invariant: the fields before this one stand, and those left make the line's fields whole.
 -- Assumes nothing.
 use Rattle.std.proofs.Common.{rules}
-use Rattle.text.proofs.LineReplyLaws.{filling_none, filling_room, filling_more, filling_all, filling_end}
+use Rattle.text.proofs.LineReplyLaws.{filling_room, filling_more, filling_all, filling_end}
 use Rattle.text.proofs.printing.put_fields.Goals as goal
-
-pub loop-field-init : goal.loop-field-init
-loop-field-init c = filling_none _ _ _ (search rules)
 
 pub put_field-at-requires : goal.put_field-at-requires
 put_field-at-requires c = filling_room c.loop-field.invariant (search rules)

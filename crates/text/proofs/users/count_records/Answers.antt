@@ -14,20 +14,11 @@ loop-at-init c = records-none _ _ _ _ _ c.requires.all_sound.0 c.requires.few_us
 pub record_at-record-requires : goal.record_at-record-requires
 record_at-record-requires c = rest_fits c.loop-at.invariant.rest c.loop-at-test.true
 
-pub count_path-requires : goal.count_path-requires
-count_path-requires c =
+pub count_path-requires-clause-all_below : goal.count_path-requires-clause-all_below
+count_path-requires-clause-all_below c =
     let inv = c.loop-at.invariant in
     let long : length c.loop-at.users ≡ 4096 = inv.users-long ∙ c.requires.all_sound.1 in
-    record {
-      as_long = omega (arith, inv.users-long, inv.stamps-long, c.requires.all_sound.1, c.requires.all_sound.2);
-      all_below = (rw long (path-below inv.rest inv.nodes-few c.loop-at-test.true c.record_at-record.ensures), inv.few);
-    }
-
-pub loop-at-smaller : goal.loop-at-smaller
-loop-at-smaller c = omega (arith, c.record_at-record.ensures.end-is, rest_fits c.loop-at.invariant.rest c.loop-at-test.true)
-
-pub loop-at-smaller-then-record-net : goal.loop-at-smaller-then-record-net
-loop-at-smaller-then-record-net c = omega (arith, c.record_at-record.ensures.end-is, rest_fits c.loop-at.invariant.rest c.loop-at-test.true)
+    (rw long (path-below inv.rest inv.nodes-few c.loop-at-test.true c.record_at-record.ensures), inv.few)
 
 pub loop-at-preserved-then-record-net : goal.loop-at-preserved-then-record-net
 loop-at-preserved-then-record-net c =
@@ -35,12 +26,6 @@ loop-at-preserved-then-record-net c =
 
 pub loop-at-preserved : goal.loop-at-preserved
 loop-at-preserved c = records_passed c.loop-at.invariant c.loop-at-test.true c.record_at-record.ensures c.if-record-net.false
-
-pub shape_of-users : goal.shape_of-users
-shape_of-users c = c.loop-at.invariant.users-long
-
-pub shape_of-stamps : goal.shape_of-stamps
-shape_of-stamps c = c.loop-at.invariant.stamps-long
 
 pub returns : goal.returns
 returns c = records-all c.loop-at.invariant (search rules)
