@@ -102,12 +102,7 @@ fn audit_from(
 }
 
 // The lists and the tariff of a run that begins, and the audit from there.
-fn audit_lists(
-    job: &JobTables,
-    used: usize,
-    work: &mut [u64],
-    log: &[u32],
-) -> AuditAnswer
+fn audit_lists(job: &JobTables, used: usize, work: &mut [u64], log: &[u32]) -> AuditAnswer
     requires { let asked = job_in job.now in
         Routable asked × (8 * nodes asked ≤ length work.old) }
     ensures { let asked = job_in job.now in
@@ -145,12 +140,7 @@ fn audit_lists(
 }
 
 // Audits the log of a job of joined nets: refusal 7, then its turns.
-pub fn audit_joined(
-    job: &JobTables,
-    used: usize,
-    work: &mut [u64],
-    log: &[u32],
-) -> AuditAnswer
+pub fn audit_joined(job: &JobTables, used: usize, work: &mut [u64], log: &[u32]) -> AuditAnswer
     requires { let asked = job_in job.now in
         Routable asked × (8 * nodes asked ≤ length work.old) }
     ensures { let asked = job_in job.now in
@@ -162,11 +152,6 @@ pub fn audit_joined(
             turns::clear(work, 8 * job.block.kind.len());
             refused(Outcome::Unreachable { net, place })
         }
-        None => audit_lists(
-            job,
-            used,
-            work,
-            log,
-        ),
+        None => audit_lists(job, used, work, log),
     }
 }

@@ -101,8 +101,6 @@ pub fn mark_due(
 {
     let all = all_due(job.terms, tariff.iteration);
     for net in 0..due.len() {
-        due[net] = due_mark(
-            all, job, log, tree_from, tree_to, users, net,
-        );
+        due[net] = due_mark(all, job, log, tree_from, tree_to, users, net);
     }
 }

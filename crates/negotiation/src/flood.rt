@@ -10,13 +10,7 @@ use search::Tables;
 // Marks the targets of node u that are not marked yet. Each waits in the queue, which is the work slice up to `end`; the answer is its new
 // end. Every target is written behind the queue, which then grows by 1 or 0: whether a target is new no processor foresees, and a sum needs
 // no branch.
-fn flood_row(
-    tables: &Tables,
-    u: usize,
-    end: usize,
-    reached: &mut [u8],
-    work: &mut [u64],
-) -> usize
+fn flood_row(tables: &Tables, u: usize, end: usize, reached: &mut [u8], work: &mut [u64]) -> usize
     requires { FloodRoom (graph_in tables.now) u end reached.old work.old }
     ensures { let graph = graph_in tables.now in
         let to = row_start graph (u + 1) in
@@ -54,13 +48,7 @@ pub fn missing_sink(reached: &[u8], sinks: &[u16], from: usize) -> usize
 
 // Marks nodes that have a path from the source, and no other, until every sink is marked or there is no other such node. The work slice
 // holds the queue.
-pub fn flood(
-    tables: &Tables,
-    source: usize,
-    sinks: &[u16],
-    reached: &mut [u8],
-    work: &mut [u64],
-)
+pub fn flood(tables: &Tables, source: usize, sinks: &[u16], reached: &mut [u8], work: &mut [u64])
     requires { let graph = graph_in tables.now in
         FloodReady graph source sinks.now reached.old work.old }
     ensures { let graph = graph_in tables.now in

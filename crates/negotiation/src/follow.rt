@@ -76,14 +76,7 @@ fn last_mark(next: usize, to: usize) -> u8
 }
 
 // The step from node u to v goes along an edge to a node without a mark, which is a goal or not as `last` says.
-fn step_passes(
-    tables: &Tables,
-    goals: &[u8],
-    in_tree: &[u8],
-    u: usize,
-    v: usize,
-    last: u8,
-) -> bool
+fn step_passes(tables: &Tables, goals: &[u8], in_tree: &[u8], u: usize, v: usize, last: u8) -> bool
     requires graph { Graph (graph_in tables.now) × (u < length tables.now.kind.now) }
     requires goals_len { let nodes = length tables.now.kind.now in
         (length goals.now ≡ nodes) × (length in_tree.now ≡ nodes) }

@@ -127,21 +127,12 @@ fn route_joined(
             turns::clear(work, 8 * job.block.kind.len());
             refused(Outcome::Unreachable { net, place })
         }
-        None => turns::negotiate(
-            job,
-            start,
-            aimed,
-            work,
-            log,
-        ),
+        None => turns::negotiate(job, start, aimed, work, log),
     }
 }
 
 // The refusal of a job given as tables with so many entries of work memory, if any: 5, 15 or 6.
-fn refusal_of(
-    job: &JobTables,
-    entries: usize,
-) -> Result<(), Outcome>
+fn refusal_of(job: &JobTables, entries: usize) -> Result<(), Outcome>
     ensures { let asked = job_in job.now in
         result ≡ job_refusal asked entries }
 {
@@ -183,12 +174,7 @@ fn routed_from(
     let mut sinks = [0u16; SINKS_MOST];
     let mut criticalities = [0u8; SINKS_MOST];
     let ends = job.source.len() + 1;
-    let count = join::joined_tables(
-        job,
-        &mut firsts,
-        &mut sinks,
-        &mut criticalities,
-    );
+    let count = join::joined_tables(job, &mut firsts, &mut sinks, &mut criticalities);
     let joined = JobTables {
         block: job.block,
         source: job.source,
@@ -198,36 +184,19 @@ fn routed_from(
         criticality: &criticalities[..count],
         terms: job.terms,
     };
-    route_joined(
-        &joined,
-        start,
-        aimed,
-        work,
-        log,
-    )
+    route_joined(&joined, start, aimed, work, log)
 }
 
 // Routes a job given as tables, by the search that aims or by the plain one. Demand 3 says all of it, whichever it is: answer, work slice
 // and log are those of `route_reply`, and what follows from that. The other clause counts the nodes that the search that aims expanded.
-pub fn route(
-    job: &JobTables,
-    aimed: bool,
-    work: &mut [u64],
-    log: &mut [u32],
-) -> RouteAnswer
+pub fn route(job: &JobTables, aimed: bool, work: &mut [u64], log: &mut [u32]) -> RouteAnswer
     ensures demand { let asked = job_in job.now in
         Demand3 asked work.old log.old (route_reply_of result work.new log.new) }
     ensures expanded { let asked = job_in job.now in
         let made = turns_logged (route_reply_of result work.new log.new) in
         result.expanded ≡ expanded_after aimed (joined asked) [] made }
 {
-    routed_from(
-        job,
-        None,
-        aimed,
-        work,
-        log,
-    )
+    routed_from(job, None, aimed, work, log)
 }
 
 // Goes on from the words used of a lent log, which must follow the job, by either search: answer, work slice and log are those of
@@ -245,23 +214,12 @@ pub fn resume(
         let made = turns_logged (route_reply_of result work.new log.new) in
         result.expanded ≡ expanded_after aimed (joined asked) (decode (take used log.old)) made }
 {
-    routed_from(
-        job,
-        Some(used as usize),
-        aimed,
-        work,
-        log,
-    )
+    routed_from(job, Some(used as usize), aimed, work, log)
 }
 
 // Audits the words used of a log, whoever wrote it, against a job given as tables: answer and work slice are those of `audit_reply`, and
 // what follows from that. The log is only read.
-pub fn audit(
-    job: &JobTables,
-    used: u64,
-    work: &mut [u64],
-    log: &[u32],
-) -> AuditAnswer
+pub fn audit(job: &JobTables, used: u64, work: &mut [u64], log: &[u32]) -> AuditAnswer
     ensures audited { let asked = job_in job.now in
         Audited asked used work.old log.now (audit_reply_of result work.new) }
 {
@@ -272,12 +230,7 @@ pub fn audit(
     let mut sinks = [0u16; SINKS_MOST];
     let mut criticalities = [0u8; SINKS_MOST];
     let ends = job.source.len() + 1;
-    let count = join::joined_tables(
-        job,
-        &mut firsts,
-        &mut sinks,
-        &mut criticalities,
-    );
+    let count = join::joined_tables(job, &mut firsts, &mut sinks, &mut criticalities);
     let joined = JobTables {
         block: job.block,
         source: job.source,
@@ -287,10 +240,5 @@ pub fn audit(
         criticality: &criticalities[..count],
         terms: job.terms,
     };
-    audit_log::audit_joined(
-        &joined,
-        used as usize,
-        work,
-        log,
-    )
+    audit_log::audit_joined(&joined, used as usize, work, log)
 }

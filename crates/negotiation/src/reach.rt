@@ -29,13 +29,7 @@ pub fn unreachable(job: &JobTables, work: &mut [u64]) -> Option<Missing>
         let from = job.first_sink[net] as usize;
         let to = job.first_sink[net + 1] as usize;
         let s = job.source[net] as usize;
-        flood::flood(
-            &job.block,
-            s,
-            &job.sink[from..to],
-            &mut reached[..n],
-            work,
-        );
+        flood::flood(&job.block, s, &job.sink[from..to], &mut reached[..n], work);
         let place = flood::missing_sink(&reached[..n], &job.sink[from..to], 0);
         if place < to - from {
             return Some(Missing {

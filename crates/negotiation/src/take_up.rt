@@ -90,7 +90,13 @@ fn set_goals(sinks: &[u16], goals: &mut [u8])
 }
 
 // The words of the record at the tariff's place, given none where it doesn't follow, if its cost is a least cost of the turn.
-fn judged(log: &[u32], t: Tariff, over: u32, count: Option<usize>, least: u64) -> Result<usize, Stopped>
+fn judged(
+    log: &[u32],
+    t: Tariff,
+    over: u32,
+    count: Option<usize>,
+    least: u64,
+) -> Result<usize, Stopped>
     requires begun { 1 ≤ t.iteration }
     requires whole { (count ≡ None → ⊥) → t.words + 6 ≤ length log.now }
     ensures { result ≡ judged_as t over count (named_cost (drop t.words log.now)) least }
@@ -140,11 +146,7 @@ fn follow_tried(
     ensures same_from { SameFrom (8 * length job.now.block.kind.now) work.old work.new }
 {
     if ends_here(walk.audit, tariff.words, log.len()) {
-        return Err(Stopped::Ends(came_to(
-            tariff,
-            tariff.iteration - 1,
-            walk.over,
-        )));
+        return Err(Stopped::Ends(came_to(tariff, tariff.iteration - 1, walk.over)));
     }
     let n = job.block.kind.len();
     let mut goals = [0u8; NODES_MOST];
@@ -159,15 +161,7 @@ fn follow_tried(
         others: users,
     };
     let least = follow::least_cost(walk.audit, &job.block, &prices, work, in_tree, sinks);
-    let count = follow::follow_turn(
-        &job.block,
-        &prices,
-        net,
-        tariff,
-        &goals[..n],
-        in_tree,
-        log,
-    );
+    let count = follow::follow_turn(&job.block, &prices, net, tariff, &goals[..n], in_tree, log);
     judged(log, tariff, walk.over, count, least)
 }
 
@@ -207,17 +201,7 @@ fn follow_net(
             return Err(Stopped::Off(tariff.words));
         }
         let count = follow_tried(
-            job,
-            from,
-            to,
-            net,
-            tariff,
-            walk,
-            history,
-            users,
-            in_tree,
-            work,
-            log,
+            job, from, to, net, tariff, walk, history, users, in_tree, work, log,
         )?;
         tariff = tariff::turn_logged(tariff, count, 0);
         left -= 1;
@@ -251,22 +235,9 @@ fn follow_nets(
         let from = job.first_sink[net] as usize;
         let to = job.first_sink[net + 1] as usize;
         let first = tariff.words;
-        let turns = nets::begin_net(
-            job, log, net, due, tree_from, tree_to, users, in_tree,
-        );
+        let turns = nets::begin_net(job, log, net, due, tree_from, tree_to, users, in_tree);
         tariff = follow_net(
-            job,
-            from,
-            to,
-            net as u32,
-            tariff,
-            turns,
-            walk,
-            history,
-            users,
-            in_tree,
-            work,
-            log,
+            job, from, to, net as u32, tariff, turns, walk, history, users, in_tree, work, log,
         )?;
         let until = tariff.words;
         nets::end_net(
@@ -277,7 +248,13 @@ fn follow_nets(
 }
 
 // What a log comes to behind a whole iteration: an audit's words may end there; else a node is overfull, and the limit is not reached.
-fn whole_iteration(audit: bool, t: Tariff, over: u32, limit: u32, len: usize) -> Result<Tariff, Stopped>
+fn whole_iteration(
+    audit: bool,
+    t: Tariff,
+    over: u32,
+    limit: u32,
+    len: usize,
+) -> Result<Tariff, Stopped>
     ensures { result ≡ whole_as audit t over limit len }
 {
     if ends_here(audit, t.words, len) {
@@ -320,22 +297,10 @@ pub fn take_up(
     let mut over = 0u32;
     let mut more = true;
     while more {
-        due::mark_due(
-            job, tariff, log, tree_from, tree_to, users, due,
-        );
+        due::mark_due(job, tariff, log, tree_from, tree_to, users, due);
         let walk = Walk { audit, over };
         let t = follow_nets(
-            job,
-            tariff,
-            walk,
-            history,
-            users,
-            in_tree,
-            tree_from,
-            tree_to,
-            due,
-            work,
-            log,
+            job, tariff, walk, history, users, in_tree, tree_from, tree_to, due, work, log,
         )?;
         over = congestion::over_count(job.block.capacity, users);
         let next = whole_iteration(audit, t, over, job.terms.limit, log.len())?;

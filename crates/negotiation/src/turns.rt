@@ -25,8 +25,8 @@ ghost use Rattle.negotiation.specs.TakeSteps.{Started};
 use crate::take_up::Stopped;
 use crate::tariff::Tariff;
 use crate::{
-    Outcome, RouteAnswer, back, congestion, due, nets, order, records, refused, take_up,
-    tariff, trees,
+    Outcome, RouteAnswer, back, congestion, due, nets, order, records, refused, take_up, tariff,
+    trees,
 };
 use job::{JobTables, NETS_MOST};
 use price::Tuning;
@@ -246,29 +246,15 @@ fn go_on(
     let n = job.block.kind.len();
     let mut tariff = begun;
     'iterations: loop {
-        due::mark_due(
-            job, tariff, log, tree_from, tree_to, users, due,
-        );
+        due::mark_due(job, tariff, log, tree_from, tree_to, users, due);
         for net in 0..job.source.len() {
             let from = job.first_sink[net] as usize;
             let to = job.first_sink[net + 1] as usize;
             let first = tariff.words;
-            let most = nets::begin_net(
-                job, log, net, due, tree_from, tree_to, users, in_tree,
-            );
+            let most = nets::begin_net(job, log, net, due, tree_from, tree_to, users, in_tree);
             for _ in 0..most {
                 match net_turn(
-                    job,
-                    back,
-                    from,
-                    to,
-                    net as u32,
-                    tariff,
-                    work,
-                    log,
-                    history,
-                    users,
-                    in_tree,
+                    job, back, from, to, net as u32, tariff, work, log, history, users, in_tree,
                 ) {
                     Ok(None) => {}
                     Ok(Some(t)) => {
@@ -374,17 +360,7 @@ fn run_from(
         result.expanded ≡ expanded_after begun.aimed asked (lent_records start log.old) made }
 {
     let tariff = match start_at(
-        job,
-        start,
-        begun,
-        history,
-        users,
-        in_tree,
-        tree_from,
-        tree_to,
-        due,
-        work,
-        log,
+        job, start, begun, history, users, in_tree, tree_from, tree_to, due, work, log,
     ) {
         Ok(tariff) => tariff,
         Err(stopped) => {
@@ -441,18 +417,7 @@ fn run_listed(
         back_source,
     };
     run_from(
-        job,
-        &back,
-        start,
-        begun,
-        history,
-        users,
-        in_tree,
-        tree_from,
-        tree_to,
-        due,
-        work,
-        log,
+        job, &back, start, begun, history, users, in_tree, tree_from, tree_to, due, work, log,
     )
 }
 
@@ -527,17 +492,7 @@ fn run_chosen(
 {
     if begun.aimed {
         return run_aimed(
-            job,
-            start,
-            begun,
-            history,
-            users,
-            in_tree,
-            tree_from,
-            tree_to,
-            due,
-            work,
-            log,
+            job, start, begun, history, users, in_tree, tree_from, tree_to, due, work, log,
         );
     }
     let none = Back {
@@ -545,18 +500,7 @@ fn run_chosen(
         back_source: &[],
     };
     run_from(
-        job,
-        &none,
-        start,
-        begun,
-        history,
-        users,
-        in_tree,
-        tree_from,
-        tree_to,
-        due,
-        work,
-        log,
+        job, &none, start, begun, history, users, in_tree, tree_from, tree_to, due, work, log,
     )
 }
 

@@ -5,6 +5,7 @@ use Prim.Native.Nat.{◌+◌}
 use native.Mathlib.Omega.{arith}
 use lib.ListN.{length, take}
 use lib.Seq.{length-take-le}
+use Rattle.job.specs.Lent.{job_in}
 use Rattle.job.specs.Job.{Job, job_of}
 use Rattle.job.specs.Join.{joined}
 use Rattle.negotiation.specs.Routable.{Routable}
@@ -18,15 +19,13 @@ use Rattle.negotiation.proofs.audit.Goals as goal
 -- the job that is lent
 abbrev job : Start → Job
 job e =
-    job_of e.args.kind.now e.args.capacity.now e.args.first_edge.now e.args.edge_target.now e.args.source.now
-    e.args.first_sink.now e.args.sink.now e.args.delay.now e.args.criticality.now e.args.terms
+    job_in e.args.job.now
 
 -- they pass
 module _ (c : In_default) where
   abbrev listed : Job
   listed =
-      job_of c.args.kind.now c.args.capacity.now c.args.first_edge.now c.args.edge_target.now c.args.source.now
-      c.args.first_sink.now c.args.sink.now c.args.delay.now c.args.criticality.now c.args.terms
+      job_in c.args.job.now
 
   passes : TestsPass listed (length c.args.work.now)
   passes = accepted_passes listed _ c.refusal_of.ensures (no_refusal _ c.in_default.not-Err)
@@ -35,20 +34,19 @@ module _ (c : In_default) where
 module _ (c : After-joined_tables-count) where
   abbrev given : Job
   given =
-      job_of c.args.kind.now c.args.capacity.now c.args.first_edge.now c.args.edge_target.now c.args.source.now
-      c.args.first_sink.now c.args.sink.now c.args.delay.now c.args.criticality.now c.args.terms
+      job_in c.args.job.now
 
   -- the job of the joined tables
   abbrev made : Job
   made =
-      job_of c.args.kind.now c.args.capacity.now c.args.first_edge.now c.args.edge_target.now c.args.source.now
-      (take (length c.args.source.now + 1) c.joined_tables-count.new.firsts) (take c.joined_tables-count.result c.joined_tables-count.new.sinks)
-      c.args.delay.now (take c.joined_tables-count.result c.joined_tables-count.new.criticalities) c.args.terms
+      job_of c.args.job.now.block.kind.now c.args.job.now.block.capacity.now c.args.job.now.block.first_edge.now c.args.job.now.block.edge_target.now c.args.job.now.source.now
+      (take (length c.args.job.now.source.now + 1) c.joined_tables-count.new.firsts) (take c.joined_tables-count.result c.joined_tables-count.new.sinks)
+      c.args.job.now.delay.now (take c.joined_tables-count.result c.joined_tables-count.new.criticalities) c.args.job.now.terms
 
   made-is : made ≡ joined given
   made-is =
-      joined-job c.args.terms c.joined_tables-count.ensures c.args.kind.now c.args.capacity.now c.args.first_edge.now
-      c.args.edge_target.now c.args.delay.now
+      joined-job c.args.job.now.terms c.joined_tables-count.ensures c.args.job.now.block.kind.now c.args.job.now.block.capacity.now c.args.job.now.block.first_edge.now
+      c.args.job.now.block.edge_target.now c.args.job.now.delay.now
 
 pub joined_tables-count-requires : goal.joined_tables-count-requires
 joined_tables-count-requires c =

@@ -5,7 +5,8 @@ use Prim.Native.Nat.{◌≤◌}
 use native.Mathlib.Omega.{arith}
 use lib.ListN.{length}
 use Rattle.search.proofs.BlockLaws.{kinds-few}
-use Rattle.job.specs.Job.{Job, job_of}
+use Rattle.job.specs.Job.{Job}
+use Rattle.job.specs.Lent.{job_in}
 use Rattle.job.specs.Tables.{faulty_job}
 use Rattle.job.proofs.JobLaws.{sound-job}
 use Rattle.negotiation.proofs.RefusalLaws.{table_told, large_told, work-told, nothing_told}
@@ -15,11 +16,10 @@ use Rattle.negotiation.proofs.refusal_of.Goals as goal
 -- the job that is lent
 abbrev job : Start → Job
 job e =
-    job_of e.args.kind.now e.args.capacity.now e.args.first_edge.now e.args.edge_target.now e.args.source.now
-    e.args.first_sink.now e.args.sink.now e.args.delay.now e.args.criticality.now e.args.terms
+    job_in e.args.job.now
 
 -- no table is faulty
-few-nodes : (c : Else-table-ge1) → length c.args.kind.now ≤ 4096
+few-nodes : (c : Else-table-ge1) → length c.args.job.now.block.kind.now ≤ 4096
 few-nodes c =
     let named = c.faulty_job-table.ensures in
     let none : faulty_job _ ≡ 0 = sym named ∙ omega (arith, c.if-table-ge1.false) in

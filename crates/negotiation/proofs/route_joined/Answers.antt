@@ -4,7 +4,8 @@ use mathlib.Core.Path.{◌≡◌, sym}
 use native.Mathlib.Nat.{le_of_eq, le_trans}
 use native.Mathlib.Omega.{arith}
 use Rattle.search.proofs.BlockLaws.{kinds-few}
-use Rattle.job.specs.Job.{Job, job_of}
+use Rattle.job.specs.Job.{Job}
+use Rattle.job.specs.Lent.{job_in}
 use Rattle.negotiation.specs.Steps.{missing, reach_numbers}
 use Rattle.negotiation.proofs.RefusalLaws.{refused-counts}
 use Rattle.negotiation.proofs.RouteLaws.{unreachable_refused, none-missing, run_answered}
@@ -14,20 +15,19 @@ use Rattle.negotiation.proofs.route_joined.Goals as goal
 -- the job that is lent
 abbrev job : After-unreachable → Job
 job u =
-    job_of u.args.kind.now u.args.capacity.now u.args.first_edge.now u.args.edge_target.now
-    u.args.source.now u.args.first_sink.now u.args.sink.now u.args.delay.now u.args.criticality.now u.args.terms
+    job_in u.args.job.now
 
 test : (u : After-unreachable) → reach_numbers u.unreachable.result ≡ missing (job u)
 test u =
-    u.unreachable.ensures.first_missing u.args.capacity.now u.args.delay.now u.args.criticality.now u.args.terms u.requires.0
+    u.unreachable.ensures.first_missing u.args.job.now.block.capacity.now u.args.job.now.delay.now u.args.job.now.criticality.now u.args.job.now.terms u.requires.0
 
 pub unreachable-requires : goal.unreachable-requires
 unreachable-requires c = record {
   routable_with = record {
-    capacities = c.args.capacity.now;
-    delays = c.args.delay.now;
-    criticalities = c.args.criticality.now;
-    terms = c.args.terms;
+    capacities = c.args.job.now.block.capacity.now;
+    delays = c.args.job.now.delay.now;
+    criticalities = c.args.job.now.criticality.now;
+    terms = c.args.job.now.terms;
     routable = c.requires.0;
   };
   kind_in_bounds = c.requires.1;
@@ -35,7 +35,7 @@ unreachable-requires c = record {
 
 pub overflow_mul-kind : goal.overflow_mul-kind
 overflow_mul-kind c =
-    let few = kinds-few c.args.kind.now c.requires.0.block-sound.kinds_sound_lem in
+    let few = kinds-few c.args.job.now.block.kind.now c.requires.0.block-sound.kinds_sound_lem in
     omega arith
 
 pub negotiate-requires : goal.negotiate-requires

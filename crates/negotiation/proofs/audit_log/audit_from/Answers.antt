@@ -6,7 +6,8 @@ use native.Mathlib.Omega.{arith}
 use lib.ListN.{length}
 use lib.Seq.{length-take-le}
 use Rattle.search.proofs.BlockLaws.{kinds-few}
-use Rattle.job.specs.Job.{Job, job_of}
+use Rattle.job.specs.Job.{Job}
+use Rattle.job.specs.Lent.{job_in}
 use Rattle.negotiation.proofs.audit_log.AuditLogLaws.{beyond_audited, taken_audited}
 use Rattle.negotiation.proofs.audit_log.audit_from.Goals.{Start}
 use Rattle.negotiation.proofs.audit_log.audit_from.Goals as goal
@@ -14,10 +15,9 @@ use Rattle.negotiation.proofs.audit_log.audit_from.Goals as goal
 -- the job that is lent
 abbrev job : Start → Job
 job e =
-    job_of e.args.kind.now e.args.capacity.now e.args.first_edge.now e.args.edge_target.now e.args.source.now
-    e.args.first_sink.now e.args.sink.now e.args.delay.now e.args.criticality.now e.args.terms
+    job_in e.args.job.now
 
-few-nodes : (e : Start) → length e.args.kind.now ≤ 4096
+few-nodes : (e : Start) → length e.args.job.now.block.kind.now ≤ 4096
 few-nodes e = kinds-few _ e.requires.0.block-sound.kinds_sound_lem
 
 pub overflow_mul-kind : goal.overflow_mul-kind

@@ -10,7 +10,7 @@ use Rattle.negotiation.proofs.flood.flood.Goals.{In-loop-next}
 use Rattle.negotiation.proofs.flood.flood.Goals as goal
 
 -- a turn's entry of the queue is one of at most as many as there are nodes
-next-few : (t : In-loop-next) → t.loop-next.next < length t.args.kind.now
+next-few : (t : In-loop-next) → t.loop-next.next < length t.args.tables.now.kind.now
 next-few t = omega (arith, t.loop-next-test.true, queue-few t.loop-next.invariant.0.queue)
 
 pub bounds-reached-source : goal.bounds-reached-source
@@ -43,7 +43,7 @@ shape_of-work-then-missing-sinks c = c.loop-next.invariant.0.same.long ∙ lengt
 pub returns-then-missing-sinks : goal.returns-then-missing-sinks
 returns-then-missing-sinks c =
     let node = c.requires.source-node in
-    flood_stop c.requires.graph c.loop-next.invariant.0 (same_from_set (length c.args.kind.now) 0 c.args.source c.args.work.now (omega arith))
+    flood_stop c.requires.graph c.loop-next.invariant.0 (same_from_set (length c.args.tables.now.kind.now) 0 c.args.source c.args.work.now (omega arith))
     c.requires.sinks-nodes c.loop-next.invariant.2 c.missing_sink-missing.ensures c.if-missing-sinks.true
 
 pub offset_bounds-work-next : goal.offset_bounds-work-next
@@ -83,4 +83,4 @@ pub returns : goal.returns
 returns c =
     let node = c.requires.source-node in
     flood_whole c.requires.graph c.loop-next.invariant.0 c.loop-next-test.false
-    (same_from_set (length c.args.kind.now) 0 c.args.source c.args.work.now (omega arith))
+    (same_from_set (length c.args.tables.now.kind.now) 0 c.args.source c.args.work.now (omega arith))

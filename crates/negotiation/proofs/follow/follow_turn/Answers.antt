@@ -17,11 +17,11 @@ use Rattle.negotiation.proofs.follow.follow_turn.Goals as goal
 -- the frame follows
 follows :
     (c : Else-not-frame_follows)
-    → frame_follows (length c.args.kind.now) c.args.tariff.iteration c.args.net (drop c.args.tariff.words c.args.log.now) ≡ true
+    → frame_follows (length c.args.tables.now.kind.now) c.args.tariff.iteration c.args.net (drop c.args.tariff.words c.args.log.now) ≡ true
 follows c = passed c.frame_follows.ensures (ap not c.if-not-frame_follows.false)
 
 -- so the log has it
-frame : (c : Else-not-frame_follows) → FrameAt (length c.args.kind.now) c.args.tariff.iteration c.args.net c.args.log.now c.args.tariff.words
+frame : (c : Else-not-frame_follows) → FrameAt (length c.args.tables.now.kind.now) c.args.tariff.iteration c.args.net c.args.log.now c.args.tariff.words
 frame c = frame_at _ _ _ c.args.log.now c.args.tariff.words (follows c)
 
 pub returns-then-not-frame_follows : goal.returns-then-not-frame_follows

@@ -10,7 +10,7 @@ use Rattle.negotiation.proofs.follow.has_edge.Goals.{Start}
 use Rattle.negotiation.proofs.follow.has_edge.Goals as goal
 
 -- the row ends within table 4
-row_within : (s : Start) → get_or s.args.first_edge.now (s.args.u + 1) 0 ≤ length s.args.edge_target.now
+row_within : (s : Start) → get_or s.args.tables.now.first_edge.now (s.args.u + 1) 0 ≤ length s.args.tables.now.edge_target.now
 row_within s = row-end _ s.requires.0 (s.args.u + 1) (let h = s.requires.1 in omega arith)
 
 pub overflow_add-to : goal.overflow_add-to

@@ -15,7 +15,7 @@ use Rattle.negotiation.proofs.follow.path_cost.Goals.{Else-not-step_passes}
 use Rattle.negotiation.proofs.follow.path_cost.Goals as goal
 
 -- a step that passes goes to a node
-reached : (c : Else-not-step_passes) → get_or c.args.log.now c.loop-k.k 0 < length c.args.kind.now
+reached : (c : Else-not-step_passes) → get_or c.args.log.now c.loop-k.k 0 < length c.args.tables.now.kind.now
 reached c =
     step_node c.requires c.loop-k.invariant c.loop-k-test.true
     (passed (step_answer _ _ _ _ _ _ _ _ (c.loop-k.k + 1) c.args.to c.step_passes.ensures c.last_mark-last.ensures) (ap not c.if-not-step_passes.false))

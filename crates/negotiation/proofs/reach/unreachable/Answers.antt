@@ -70,7 +70,7 @@ returns-then-place-to c =
     let args = c.args in
     record {
       first_missing = λ capacities delays criticalities terms s.
-          tested-found (job_of args.kind.now capacities args.first_edge.now args.edge_target.now args.source.now args.first_sink.now args.sink.now delays criticalities terms)
+          tested-found (job_of args.job.now.block.kind.now capacities args.job.now.block.first_edge.now args.job.now.block.edge_target.now args.job.now.source.now args.job.now.first_sink.now args.job.now.sink.now delays criticalities terms)
           s c.loop-net.net c.loop-net-test.true (few w) c.requires.kind_in_bounds
           (c.loop-net.invariant capacities delays criticalities terms s) c.flood.ensures call.result call.ensures c.if-place-to.true;
       same_from =
@@ -83,7 +83,7 @@ loop-net-preserved c =
     λ capacities delays criticalities terms s.
     let call = c.missing_sink-place in
     let args = c.args in
-    tested-more (job_of args.kind.now capacities args.first_edge.now args.edge_target.now args.source.now args.first_sink.now args.sink.now delays criticalities terms)
+    tested-more (job_of args.job.now.block.kind.now capacities args.job.now.block.first_edge.now args.job.now.block.edge_target.now args.job.now.source.now args.job.now.first_sink.now args.job.now.sink.now delays criticalities terms)
     s c.loop-net.net c.loop-net-test.true (few c.requires.routable_with) c.requires.kind_in_bounds
     (c.loop-net.invariant capacities delays criticalities terms s) c.flood.ensures call.result call.ensures c.if-place-to.false
 

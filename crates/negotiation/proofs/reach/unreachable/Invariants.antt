@@ -12,5 +12,5 @@ use Rattle.negotiation.proofs.reach.unreachable.Given as goal
 abbrev pub invariant-loop-net : goal.invariant-loop-net
 invariant-loop-net l =
     (capacities delays criticalities : List ℕ) (terms : Terms)
-    → Routable (job_of l.kind capacities l.first_edge l.edge_target l.source l.first_sink l.sink delays criticalities terms)
-    → Tested (job_of l.kind capacities l.first_edge l.edge_target l.source l.first_sink l.sink delays criticalities terms) 4096 l.initial.work l.work l.reached l.net
+    → Routable (job_of l.job.block.kind.now capacities l.job.block.first_edge.now l.job.block.edge_target.now l.job.source.now l.job.first_sink.now l.job.sink.now delays criticalities terms)
+    → Tested (job_of l.job.block.kind.now capacities l.job.block.first_edge.now l.job.block.edge_target.now l.job.source.now l.job.first_sink.now l.job.sink.now delays criticalities terms) 4096 l.initial.work l.work l.reached l.net

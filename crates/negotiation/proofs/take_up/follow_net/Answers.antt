@@ -19,12 +19,12 @@ use Rattle.negotiation.proofs.take_up.follow_net.Goals as goal
 module _ (c : Else-turns-eq0) where
   -- the one that is asked for, and its work memory
   asked :
-      SomeNet c.args.kind.now c.args.capacity.now c.args.first_edge.now c.args.edge_target.now c.args.sink.now
-      c.args.delay.now c.args.criticality.now c.args.timed c.args.from c.args.to c.args.net c.args.turns
+      SomeNet c.args.job.now.block.kind.now c.args.job.now.block.capacity.now c.args.job.now.block.first_edge.now c.args.job.now.block.edge_target.now c.args.job.now.sink.now
+      c.args.job.now.delay.now c.args.job.now.criticality.now c.args.job.now.terms.timed c.args.from c.args.to c.args.net c.args.turns
       c.args.begun c.args.history.now c.args.users.now c.args.in_tree.now c.args.log.now
   asked = (c.requires (some_of c.args.turns c.if-turns-eq0.false)).0
 
-  enough : 8 * length c.args.kind.now ≤ length c.args.work.now
+  enough : 8 * length c.args.job.now.block.kind.now ≤ length c.args.work.now
   enough = (c.requires (some_of c.args.turns c.if-turns-eq0.false)).1
 
   -- a word of the log is below 2^32
@@ -41,7 +41,7 @@ module _ (c : After-follow_tried) where
   marks_long : length marks ≡ length c.args.in_tree.now
   marks_long = c.follow_tried.auto.in_tree ∙ c.loop-place.invariant.2
 
-  work-same : SameFrom (8 * length c.args.kind.now) c.args.work.now work
+  work-same : SameFrom (8 * length c.args.job.now.block.kind.now) c.args.work.now work
   work-same = same_twice c.loop-place.invariant.4 c.follow_tried.ensures.same_from
 
 pub returns-then-turns-eq0 : goal.returns-then-turns-eq0

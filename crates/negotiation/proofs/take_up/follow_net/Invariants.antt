@@ -17,13 +17,13 @@ use Rattle.negotiation.proofs.take_up.follow_net.Given as goal
 abbrev pub invariant-loop-place : goal.invariant-loop-place
 invariant-loop-place l =
     ((sources first_sinks : List ℕ) (terms : Terms) (p : Progress)
-    → NetOpens (job_of l.kind l.capacity l.first_edge l.edge_target sources first_sinks l.sink l.delay l.criticality terms) p l.net l.delay l.criticality l.timed l.from l.to l.turns l.initial.tariff l.history
+    → NetOpens (job_of l.job.block.kind.now l.job.block.capacity.now l.job.block.first_edge.now l.job.block.edge_target.now sources first_sinks l.job.sink.now l.job.delay.now l.job.criticality.now terms) p l.net l.job.delay.now l.job.criticality.now l.job.terms.timed l.from l.to l.turns l.initial.tariff l.history
     l.users l.initial.in_tree l.log
-    → Following l.walk.audit (job_of l.kind l.capacity l.first_edge l.edge_target sources first_sinks l.sink l.delay l.criticality terms) p l.net l.left l.tariff l.in_tree l.log)
-    × FirstUnmarked l.in_tree (take (l.to - l.from) (drop l.from l.sink)) 0 l.place
+    → Following l.walk.audit (job_of l.job.block.kind.now l.job.block.capacity.now l.job.block.first_edge.now l.job.block.edge_target.now sources first_sinks l.job.sink.now l.job.delay.now l.job.criticality.now terms) p l.net l.left l.tariff l.in_tree l.log)
+    × FirstUnmarked l.in_tree (take (l.to - l.from) (drop l.from l.job.sink.now)) 0 l.place
     × (length l.in_tree ≡ length l.initial.in_tree)
     × (l.tariff.expanded ≡ l.initial.tariff.expanded)
-    × SameFrom (8 * length l.kind) l.initial.work l.work
+    × SameFrom (8 * length l.job.block.kind.now) l.initial.work l.work
 
 abbrev pub decreases-loop-place : goal.decreases-loop-place
 decreases-loop-place l =

@@ -19,8 +19,8 @@ use Rattle.negotiation.proofs.take_up.follow_nets.Goals as goal
 module _ (c : At-loop-net) where
   abbrev job_with_lem : Terms → Job
   job_with_lem terms =
-      job_of c.args.kind.now c.args.capacity.now c.args.first_edge.now c.args.edge_target.now c.args.source.now c.args.first_sink.now
-      c.args.sink.now c.args.delay.now c.args.criticality.now terms
+      job_of c.args.job.now.block.kind.now c.args.job.now.block.capacity.now c.args.job.now.block.first_edge.now c.args.job.now.block.edge_target.now c.args.job.now.source.now c.args.job.now.first_sink.now
+      c.args.job.now.sink.now c.args.job.now.delay.now c.args.job.now.criticality.now terms
 
   -- the terms and the progress that are asked for
   abbrev job : Job
@@ -36,9 +36,9 @@ module _ (c : At-loop-net) where
 
   -- the tables of a net
   tables :
-      (terms : Terms) → c.args.timed ≡ terms.timed → (i : ℕ)
-      → NetTables (job_with_lem terms) i c.args.delay.now c.args.criticality.now c.args.timed (get_or c.args.first_sink.now i 0)
-      (get_or c.args.first_sink.now (i + 1) 0)
+      (terms : Terms) → c.args.job.now.terms.timed ≡ terms.timed → (i : ℕ)
+      → NetTables (job_with_lem terms) i c.args.job.now.delay.now c.args.job.now.criticality.now c.args.job.now.terms.timed (get_or c.args.job.now.first_sink.now i 0)
+      (get_or c.args.job.now.first_sink.now (i + 1) 0)
   tables terms w i = net_tables _ _ _ _ _ _ _ _ _ terms i w
 
   -- the nets so far, of what is asked for
@@ -50,7 +50,7 @@ module _ (c : At-loop-net) where
 module _ (c : After-follow_net) where
   -- the work memory that they leave
   work-same :
-      SameFrom (8 * length c.args.kind.now) c.args.work.now c.follow_net.new.work
+      SameFrom (8 * length c.args.job.now.block.kind.now) c.args.work.now c.follow_net.new.work
   work-same = same_twice c.loop-net.invariant.2 c.follow_net.ensures.same_from
 
 pub loop-net-init : goal.loop-net-init
@@ -74,8 +74,8 @@ follow_net-requires c =
     let same = c.loop-net.invariant.2.long in
     λ some. (
       record {
-        sources = c.args.source.now;
-        first_sinks = c.args.first_sink.now;
+        sources = c.args.job.now.source.now;
+        first_sinks = c.args.job.now.first_sink.now;
         terms = c.requires.0.terms;
         progress = (so_far (goal.at.follow_net-requires c).At-loop-net).progress;
         opens =

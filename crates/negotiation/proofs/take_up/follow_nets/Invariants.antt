@@ -13,8 +13,8 @@ use Rattle.negotiation.proofs.take_up.follow_nets.Given as goal
 
 abbrev pub invariant-loop-net : goal.invariant-loop-net
 invariant-loop-net l =
-    ((terms : Terms) (p : Progress) → l.timed ≡ terms.timed
-    → NetsOpen (job_of l.kind l.capacity l.first_edge l.edge_target l.source l.first_sink l.sink l.delay l.criticality terms) p l.initial.tariff l.history l.initial.users l.initial.in_tree l.initial.tree_from l.initial.tree_to l.due l.log
-    → NetsOn l.walk.audit (job_of l.kind l.capacity l.first_edge l.edge_target l.source l.first_sink l.sink l.delay l.criticality terms) p l.net l.tariff l.history l.users l.in_tree l.tree_from l.tree_to l.log)
-    × (l.net ≤ length l.source)
-    × SameFrom (8 * length l.kind) l.initial.work l.work
+    ((terms : Terms) (p : Progress) → l.job.terms.timed ≡ terms.timed
+    → NetsOpen (job_of l.job.block.kind.now l.job.block.capacity.now l.job.block.first_edge.now l.job.block.edge_target.now l.job.source.now l.job.first_sink.now l.job.sink.now l.job.delay.now l.job.criticality.now terms) p l.initial.tariff l.history l.initial.users l.initial.in_tree l.initial.tree_from l.initial.tree_to l.due l.log
+    → NetsOn l.walk.audit (job_of l.job.block.kind.now l.job.block.capacity.now l.job.block.first_edge.now l.job.block.edge_target.now l.job.source.now l.job.first_sink.now l.job.sink.now l.job.delay.now l.job.criticality.now terms) p l.net l.tariff l.history l.users l.in_tree l.tree_from l.tree_to l.log)
+    × (l.net ≤ length l.job.source.now)
+    × SameFrom (8 * length l.job.block.kind.now) l.initial.work l.work

@@ -11,7 +11,8 @@ use lib.Dec.{ltb}
 use lib.ListN.{length, get_or}
 use Rattle.price.specs.Lists.{count_below}
 use Rattle.search.proofs.BlockLaws.{kinds-few, capacities-long}
-use Rattle.job.specs.Job.{Job, job_of, nodes}
+use Rattle.job.specs.Job.{Job, nodes}
+use Rattle.job.specs.Lent.{job_in}
 use Rattle.negotiation.specs.Routable.{Routable}
 use Rattle.negotiation.specs.Machine.{Progress}
 use Rattle.negotiation.specs.Kept.{Ready}
@@ -41,8 +42,7 @@ over-is j sound users e =
 module _ (c : At-loop-net) where
   abbrev net_job : Job
   net_job =
-      job_of c.args.kind.now c.args.capacity.now c.args.first_edge.now c.args.edge_target.now c.args.source.now c.args.first_sink.now
-      c.args.sink.now c.args.delay.now c.args.criticality.now c.args.terms
+      job_in c.args.job.now
 
   -- a progress whose lists and tariff they are at first
   abbrev NetReady : Progress → Type 0
@@ -90,16 +90,16 @@ module _ (c : At-loop-net) where
 
   -- past the last net
   whole :
-      length c.args.source.now ≤ c.loop-net.net → (p : Progress) (r : NetReady p)
-      → AtNet net_job p c.args.work.now c.args.log.now (c.iterations.invariant p r).0 (length c.args.source.now) c.loop-net.tariff
+      length c.args.job.now.source.now ≤ c.loop-net.net → (p : Progress) (r : NetReady p)
+      → AtNet net_job p c.args.work.now c.args.log.now (c.iterations.invariant p r).0 (length c.args.job.now.source.now) c.loop-net.tariff
       c.iterations.history c.loop-net.users c.loop-net.in_tree c.loop-net.tree_from c.loop-net.tree_to c.mark_due.new.due
       c.loop-net.work c.loop-net.log
   whole past p r = all-routed _ (net_at p r) past
 
   whole_safe :
-      length c.args.source.now ≤ c.loop-net.net
+      length c.args.job.now.source.now ≤ c.loop-net.net
       → AtNet net_job c.requires.ready.1.progress c.args.work.now c.args.log.now
-      (c.iterations.invariant c.requires.ready.1.progress c.requires.ready.1.ready).0 (length c.args.source.now) c.loop-net.tariff
+      (c.iterations.invariant c.requires.ready.1.progress c.requires.ready.1.ready).0 (length c.args.job.now.source.now) c.loop-net.tariff
       c.iterations.history c.loop-net.users c.loop-net.in_tree c.loop-net.tree_from c.loop-net.tree_to c.mark_due.new.due
       c.loop-net.work c.loop-net.log
   whole_safe past = whole past c.requires.ready.1.progress c.requires.ready.1.ready
@@ -108,8 +108,7 @@ module _ (c : At-loop-net) where
 module _ (c : At-loop) where
   abbrev turn_job : Job
   turn_job =
-      job_of c.args.kind.now c.args.capacity.now c.args.first_edge.now c.args.edge_target.now c.args.source.now c.args.first_sink.now
-      c.args.sink.now c.args.delay.now c.args.criticality.now c.args.terms
+      job_in c.args.job.now
 
   abbrev TurnReadyAt : Progress → Type 0
   TurnReadyAt p =
@@ -167,7 +166,7 @@ module _ (c : At-loop) where
   turn_safe = turn_at c.requires.ready.1.progress c.requires.ready.1.ready
 
   -- tables 9 and 10
-  tables : Lent turn_job c.args.delay.now c.args.criticality.now
+  tables : Lent turn_job c.args.job.now.delay.now c.args.job.now.criticality.now
   tables = lent_tables _ _ _ _ _ _ _ _ _ _
 
 pub iterations-init : goal.iterations-init

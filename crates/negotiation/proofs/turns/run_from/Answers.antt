@@ -6,7 +6,8 @@ use Prim.Native.Nat.{ℕ, ◌*◌, ◌≤◌}
 use native.Mathlib.Omega.{arith}
 use lib.ListN.{length}
 use Rattle.search.proofs.BlockLaws.{kinds-few}
-use Rattle.job.specs.Job.{Job, job_of}
+use Rattle.job.specs.Job.{Job}
+use Rattle.job.specs.Lent.{job_in}
 use Rattle.negotiation.specs.Outcome.{RouteReply, route_reply_of, turns_logged}
 use Rattle.negotiation.specs.declared.tariff.Tariff.{Tariff}
 use Rattle.negotiation.proofs.RefusalLaws.{refused-counts}
@@ -17,14 +18,13 @@ use Rattle.negotiation.proofs.turns.run_from.Goals as goal
 -- the job that is lent
 abbrev job : Start → Job
 job e =
-    job_of e.args.kind.now e.args.capacity.now e.args.first_edge.now e.args.edge_target.now e.args.source.now
-    e.args.first_sink.now e.args.sink.now e.args.delay.now e.args.criticality.now e.args.terms
+    job_in e.args.job.now
 
 -- what it leaves in the work slice, which is as long as before
 abbrev work : After-start_at → List ℕ
 work s = s.start_at.new.work
 
-enough : (s : After-start_at) → 8 * length s.args.kind.now ≤ length (work s)
+enough : (s : After-start_at) → 8 * length s.args.job.now.block.kind.now ≤ length (work s)
 enough s =
     let lent-enough = s.requires.ready.0.2 in
     let long = s.start_at.auto.work in
@@ -36,7 +36,7 @@ start_at-requires c =
 
 pub overflow_mul-kind : goal.overflow_mul-kind
 overflow_mul-kind c =
-    let few = kinds-few c.args.kind.now c.requires.ready.0.0.block-sound.kinds_sound_lem in
+    let few = kinds-few c.args.job.now.block.kind.now c.requires.ready.0.0.block-sound.kinds_sound_lem in
     omega arith
 
 pub clear-requires : goal.clear-requires

@@ -4,7 +4,8 @@
 use mathlib.Core.Path.{refl, sym}
 use lib.ListN.{take}
 use lib.Seq.{length-take-le}
-use Rattle.job.specs.Job.{Job, job_of}
+use Rattle.job.specs.Job.{Job}
+use Rattle.job.specs.Lent.{job_in}
 use Rattle.negotiation.proofs.turns.StartLaws.{begun_over, start_anew, start-beyond, start-taken}
 use Rattle.negotiation.proofs.turns.start_at.Goals.{Start}
 use Rattle.negotiation.proofs.turns.start_at.Goals as goal
@@ -12,8 +13,7 @@ use Rattle.negotiation.proofs.turns.start_at.Goals as goal
 -- the job that is lent
 abbrev job : Start → Job
 job e =
-    job_of e.args.kind.now e.args.capacity.now e.args.first_edge.now e.args.edge_target.now e.args.source.now
-    e.args.first_sink.now e.args.sink.now e.args.delay.now e.args.criticality.now e.args.terms
+    job_in e.args.job.now
 
 pub returns-then-log-used : goal.returns-then-log-used
 returns-then-log-used c = record { started = start-beyond (job (goal.at.returns-then-log-used c).Start) c.args.start c.args.log.now _ c.in-Some.is c.if-log-used.true _ _ _ _ _ _; same_from = record { long = refl; high = λ k l. refl } }
