@@ -36,7 +36,7 @@
 --
 -- The work slice
 --     StoreLaws       a store at one place of a list
---     FillLaws        loops that clear or fill a part
+--     FillLaws        the first label of a node
 --     QueueLaws       the tournament tree
 --
 -- The plain search (Dijkstra): labels and a binary heap

@@ -14,7 +14,8 @@ use Rattle.search.specs.Tables.{faulty_table, delays_sound, Sound}
 use Rattle.search.specs.Turn.{Congestion}
 use Rattle.search.specs.Replies.{refusal_of, search_refusal, sink_list_sound, faulty_with_delays, faulty_with_sinks}
 use Rattle.search.specs.Priceable.{PricesReady}
-use Rattle.search.specs.declared.SearchAnswer.{SearchAnswer}
+use Rattle.std.specs.Prelude.{Result, Ok}
+use Rattle.search.specs.declared.Refusal.{Refusal}
 use Rattle.search.proofs.BlockLaws.{sound_of, kinds-few}
 use Rattle.search.proofs.ReadyLaws.{refusal-none, fault-none, delays-kept, passed_ready}
 
@@ -52,7 +53,7 @@ module _ (ks cs fs ts : List ℕ) (c : Congestion) (sinks : List ℕ) where
 
 -- what is refused is due
 pub refused-is :
-    (ks cs fs ts : List ℕ) (c : Congestion) (sinks marks : List ℕ) (entries : ℕ) {table : ℕ} {r answer : SearchAnswer} → table ≡ faulty_with_sinks (block_of ks cs fs ts) c sinks
+    (ks cs fs ts : List ℕ) (c : Congestion) (sinks marks : List ℕ) (entries : ℕ) {table : ℕ} {r answer : Result (Unit {0}) Refusal} → table ≡ faulty_with_sinks (block_of ks cs fs ts) c sinks
     → search_refusal r ≡ refusal_of table (length ks) c marks entries → r ≡ answer
     → search_refusal answer ≡ refusal_of (faulty_with_sinks (block_of ks cs fs ts) c sinks) (length ks) c marks entries
 refused-is ks cs fs ts c sinks marks entries found e is =

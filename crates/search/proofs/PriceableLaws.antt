@@ -20,8 +20,8 @@ use borrow.Author.Tests.{leb-true, ltb-true, eqb-true}
 use Rattle.price.specs.Bounds.{nodes_most, others_most, timed_nodes_most, delay_most}
 use Rattle.price.specs.Replies.{priced, price_reply_of}
 use Rattle.price.specs.Timed.{history_bound, weighed_most, weighed_reply}
-use Rattle.price.specs.declared.PriceAnswer.{PriceAnswer}
-use Rattle.price.specs.declared.PriceAnswer.TheVariants.{Price, Refused}
+use Rattle.std.specs.Prelude.{Result, Ok, Err}
+use Rattle.price.specs.declared.BadNumber.{BadNumber}
 use Rattle.price.proofs.TestLaws.{true≢false, both_left, both_right, le_or_lt}
 use Rattle.price.proofs.ListLaws.{every-at}
 use Rattle.price.proofs.BelowLaws.{first_below-is, first_below-all}
@@ -215,12 +215,12 @@ module _ {kinds capacities : List ℕ} {c : Congestion} {v : ℕ} (ready : Price
   reply = reply_delay c.weighting _ _ _ _ _ d read ∙ weighed-priced c.weighting _ _ _ _ _ _ ready.bounds
 
   pub answered-price :
-      {r : PriceAnswer} {p : ℕ} → r ≡ Price p
+      {r : Result ℕ BadNumber} {p : ℕ} → r ≡ Ok p
       → price_reply_of r ≡ weighed_reply c.weighting (get_or kinds v 0) c.factor (get_or c.others v 0) (get_or capacities v 0) (get_or c.histories v 0) d
       → p ≡ price_at (block_of kinds capacities [] []) c v
   answered-price q e = answer-priced (e ∙ reply) q
 
   pub answered-refused :
-      {r : PriceAnswer} {place : ℕ} → r ≡ Refused place
+      {r : Result ℕ BadNumber} {bad : BadNumber} → r ≡ Err bad
       → price_reply_of r ≡ weighed_reply c.weighting (get_or kinds v 0) c.factor (get_or c.others v 0) (get_or capacities v 0) (get_or c.histories v 0) d → ⊥
   answered-refused q e = answer_not_refused (e ∙ reply) q

@@ -14,8 +14,8 @@ use Rattle.search.specs.Tables.{faulty_table, Sound}
 use Rattle.search.specs.Distance.{distances}
 use Rattle.search.specs.Turn.{Congestion, congestion_of, price_at}
 use Rattle.search.specs.Replies.{cleared, refusal_of, search_refusal, SearchReply, search_reply, timed_search_reply, faulty_with_delays, search_reply_of}
-use Rattle.search.specs.declared.SearchAnswer.{SearchAnswer}
-use Rattle.search.specs.declared.SearchAnswer.TheVariants as answer
+use Rattle.std.specs.Prelude.{Result, Ok}
+use Rattle.search.specs.declared.Refusal.{Refusal}
 use Rattle.search.specs.Priceable.{PricesReady}
 use Rattle.search.proofs.BlockLaws.{sound_of, kinds-few}
 use Rattle.search.proofs.ReadyLaws.{refusal-none, delays-kept, passed_ready}
@@ -38,24 +38,24 @@ passed_search ks cs fs ts c marks entries none =
 -- ---- the search's reply
 
 module _ (ks cs fs ts : List ℕ) (c : Congestion) (marks : List ℕ) (entries : ℕ) {table : ℕ} (lowest : table ≡ faulty_with_delays (block_of ks cs fs ts) c)
-    (r : SearchAnswer) (found : search_refusal r ≡ refusal_of table (length ks) c marks entries) where
+    (r : Result (Unit {0}) Refusal) (found : search_refusal r ≡ refusal_of table (length ks) c marks entries) where
   -- what is due
   due : refusal_of (faulty_with_delays (block_of ks cs fs ts) c) (length ks) c marks entries ≡ search_refusal r
   due = ap (λ (t : ℕ). refusal_of t (length ks) c marks entries) (sym lowest) ∙ sym found
 
-  pub search_ready : r ≡ answer.Done → PricesReady ks cs c marks × Sound (block_of ks cs fs ts) × (8 * length ks ≤ entries)
+  pub search_ready : r ≡ Ok tt → PricesReady ks cs c marks × Sound (block_of ks cs fs ts) × (8 * length ks ≤ entries)
   search_ready fine = passed_search ks cs fs ts c marks entries (due ∙ ap search_refusal fine)
 
 module _ (ks cs fs ts : List ℕ) (c : Congestion) (marks work : List ℕ) {table : ℕ} (lowest : table ≡ faulty_with_delays (block_of ks cs fs ts) c)
-    (r : SearchAnswer) (found : search_refusal r ≡ refusal_of table (length ks) c marks (length work)) where
+    (r : Result (Unit {0}) Refusal) (found : search_refusal r ≡ refusal_of table (length ks) c marks (length work)) where
   -- a refusal leaves the work slice as it was
-  pub search_refused : {a : SearchAnswer} {k : ℕ} {rest : List ℕ} → r ≡ a → search_refusal a ≡ k ∷ rest → search_reply_of a work ≡ timed_search_reply (block_of ks cs fs ts) c marks work
+  pub search_refused : {a : Result (Unit {0}) Refusal} {k : ℕ} {rest : List ℕ} → r ≡ a → search_refusal a ≡ k ∷ rest → search_reply_of a work ≡ timed_search_reply (block_of ks cs fs ts) c marks work
   unfolding timed_search_reply
   search_refused e is = rw (due ks cs fs ts c marks (length work) lowest r found, e, is)
 
   pub search_done_lem :
-      {work' : List ℕ} → r ≡ answer.Done → work' ≡ cleared (length ks) (distances (block_of ks cs fs ts) (price_at (block_of ks cs fs ts) c) marks) work
-      → search_reply_of answer.Done work' ≡ timed_search_reply (block_of ks cs fs ts) c marks work
+      {work' : List ℕ} → r ≡ Ok tt → work' ≡ cleared (length ks) (distances (block_of ks cs fs ts) (price_at (block_of ks cs fs ts) c) marks) work
+      → search_reply_of (Ok tt) work' ≡ timed_search_reply (block_of ks cs fs ts) c marks work
   unfolding timed_search_reply
   search_done_lem e end = rw (due ks cs fs ts c marks (length work) lowest r found, e, end)
 

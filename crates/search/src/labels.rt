@@ -87,8 +87,7 @@ fn matters(tables: &Tables, work: &[u64], w: usize) -> bool
         (n ≤ nodes_most) × (length tables.now.first_edge.now ≡ n + 1) × (n ≤ length work.now) }
     ensures { result ≡ false → w < length tables.now.kind.now → DeadEnd tables.now.first_edge.now work.now w }
 {
-    w < tables.kind.len()
-        && (tables.first_edge[w] < tables.first_edge[w + 1] || work[w] == GOAL)
+    w < tables.kind.len() && (tables.first_edge[w] < tables.first_edge[w + 1] || work[w] == GOAL)
 }
 
 // Some edge of v, as far as table 4 has its row, matters.

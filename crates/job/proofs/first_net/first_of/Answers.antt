@@ -9,8 +9,8 @@ use Rattle.job.proofs.first_net.first_of.Goals as goal
 pub loop-i-init : goal.loop-i-init
 loop-i-init c = (below_none _, search rules)
 
-pub returns-then-source-i : goal.returns-then-source-i
-returns-then-source-i c =
+pub returns-then-from-node : goal.returns-then-from-node
+returns-then-from-node c =
     sym (first_found _ _ _ _ c.source_of-node.ensures (search rules) (search rules) c.loop-i.invariant.0)
 
 pub loop-i-preserved : goal.loop-i-preserved

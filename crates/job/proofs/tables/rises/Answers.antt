@@ -1,4 +1,4 @@
--- `table_tests::rises` meets its contract. The loop's invariant: every entry passed is above the one before it.
+-- `tables::rises` meets its contract. The loop's invariant: every entry passed is above the one before it.
 -- Assumes nothing.
 use mathlib.Core.Path.{sym}
 use native.Mathlib.Omega.{arith}

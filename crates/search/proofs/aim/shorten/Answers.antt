@@ -25,7 +25,7 @@ returns-then-estimate c =
     let none = c.if-estimate.true in
     let same = same-estimate a.n a.u a.v a.d a.work.now h room in
     let t = shortened_lacks a.n a.u a.v a.d a.work.now h room c.requires.u_lt_n.3 none in
-    (t, λ s. best_other h t s c.requires.u_lt_n.5 (λ z. omega arith), λ s. low_lacks h t s c.requires.u_lt_n.4 c.lesser.ensures)
+    (t, λ s. best_other h t s c.requires.u_lt_n.5 (λ z. omega arith), λ s. low_lacks h t s c.requires.u_lt_n.4 c.min.ensures)
 
 -- the node has an estimate
 known : (c : Else-estimate) → estimate_at c.args.n c.args.work.now c.args.v ≡ far → ⊥
@@ -56,7 +56,7 @@ returns-then-estimate-eq0 c =
     let same = same-estimate a.n a.u a.v a.d a.work.now h room in
     let sink = c.if-estimate-eq0.true in
     let t = shortened_waits a.n a.u a.v a.d a.work.now h room c.if-estimate.false c.wait.ensures in
-    (t, λ s. best_sink h t s c.requires.u_lt_n.5 (omega arith) c.lesser-then-estimate-eq0.ensures, λ s. low_other h t s (known (goal.at.returns-then-estimate-eq0 c).Else-estimate))
+    (t, λ s. best_sink h t s c.requires.u_lt_n.5 (omega arith) c.min-then-estimate-eq0.ensures, λ s. low_other h t s (known (goal.at.returns-then-estimate-eq0 c).Else-estimate))
 
 pub shape_of-work : goal.shape_of-work
 shape_of-work c = c.wait.ensures.long ∙ simp length-set
