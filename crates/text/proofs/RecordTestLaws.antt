@@ -31,9 +31,9 @@ all_every test (x ∷ xs) = by_test (test x) (λ t. rw (t, all_every test xs)) (
 -- ---- the tests of a record
 
 -- a net beyond the marks has none
-pub marked_none : (marks : List ℕ) (i : ℕ) → length marks ≤ i → net_marked marks i ≡ false
+pub marked_none : (marks : List Bool) (i : ℕ) → length marks ≤ i → net_marked marks i ≡ false
 unfolding net_marked
-marked_none marks i l = rw (get_or-eq_default marks 0 l)
+marked_none marks i l = get_or-eq_default marks false l
 
 -- ---- what a sound record has
 

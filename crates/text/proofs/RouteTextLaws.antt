@@ -87,7 +87,7 @@ writable-few sources t i e = omega (arith, writable-within sources i e, sources-
 
 -- by the marks of those nets
 pub marks_few :
-    (sources marks : List ℕ) → sources_sound nodes_most sources ≡ true → ((i : ℕ) → net_marked marks i ≡ net_writable sources i)
+    (sources : List ℕ) (marks : List Bool) → sources_sound nodes_most sources ≡ true → ((i : ℕ) → net_marked marks i ≡ net_writable sources i)
     → (i : ℕ) → net_marked marks i ≡ true → i < nets_most
 marks_few sources marks t m i e = writable-few sources t i (sym (m i) ∙ e)
 
@@ -97,7 +97,7 @@ module _ (text : List ℕ → List Record → List ℕ) (sources log buffer : Li
   write_table t = rw t
 
   -- the log's test goes by the marks of the nets that may be named
-  module _ (marks : List ℕ) (t : sources_sound nodes_most sources ≡ true) (m : (i : ℕ) → net_marked marks i ≡ net_writable sources i) where
+  module _ (marks : List Bool) (t : sources_sound nodes_most sources ≡ true) (m : (i : ℕ) → net_marked marks i ≡ net_writable sources i) where
     by_marks : named_by marks nodes_most ≡ writable sources
     by_marks = ap (λ (net : ℕ → Bool). record { net = net; nodes = nodes_most }) (fun_ext m)
 

@@ -1,6 +1,6 @@
 -- What the contracts of the writer's private functions say.
 -- Assumes nothing.
-use Rattle.std.specs.Prelude.{Bool, true, List, [], ◌∷◌, ◌≡◌, ℕ, ◌+◌, ◌-◌, ◌^◌, ◌≤◌, ◌<◌, eqb, length, get_or, take, drop}
+use Rattle.std.specs.Prelude.{Bool, true, false, List, [], ◌∷◌, ◌≡◌, ℕ, ◌+◌, ◌-◌, ◌^◌, ◌≤◌, ◌<◌, eqb, length, get_or, take, drop}
 use Rattle.price.specs.Bounds.{nodes_most}
 use Rattle.job.specs.Tables.{nets_most}
 use Rattle.negotiation.specs.Records.{Record, decode}
@@ -48,12 +48,12 @@ abbrev pub tail_text : Style → List ℕ → List ℕ
 tail_text s.Lines sources = join_text (route_joins sources)
 tail_text s.Picture sources = dot_end
 
--- the nets that bear the mark 1
-unfoldable pub net_marked : List ℕ → ℕ → Bool
-net_marked marks i = eqb (get_or marks i 0) 1
+-- the nets that are marked
+unfoldable pub net_marked : List Bool → ℕ → Bool
+net_marked marks i = get_or marks i false
 
 -- what a log may name by marks of nets and a bound of nodes
-abbrev pub named_by : List ℕ → ℕ → Named
+abbrev pub named_by : List Bool → ℕ → Named
 named_by marks nodes = record { net = net_marked marks; nodes = nodes }
 
 -- every word is one of a sound record, which may name some of the nets below 512 and of the nodes below 4,096

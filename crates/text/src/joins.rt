@@ -7,16 +7,14 @@ ghost use Rattle.text.specs.WriteSteps.{Filled, net_marked};
 use crate::printing;
 use job::NETS_MOST;
 
-// Marks of the nets, 1 for each that is the first of its source.
-pub fn first_marks(source: &[u16]) -> [u8; NETS_MOST]
+// Which nets are the first of their source.
+pub fn first_marks(source: &[u16]) -> [bool; NETS_MOST]
     requires { length source.now ≤ nets_most }
     ensures { (i : ℕ) → net_marked result i ≡ net_writable source.now i }
 {
-    let mut marks = [0u8; NETS_MOST];
+    let mut marks = [false; NETS_MOST];
     for net in 0..source.len() {
-        if job::first_of(source, net) == net {
-            marks[net] = 1;
-        }
+        marks[net] = job::first_of(source, net) == net;
     }
     marks
 }

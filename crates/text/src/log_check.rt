@@ -38,18 +38,18 @@ fn path_sound(nodes: usize, words: &[u32], n: usize, sink: u32) -> bool
         && words[5 + n] == sink
 }
 
-// The net bears the mark 1.
+// The net is marked.
 #[tactic(auto, using(crate::proofs::RecordTestLaws::marked_none), unfolding(crate::specs::WriteSteps::net_marked))]
-fn net_marked(marks: &[u8], net: u32) -> bool
+fn net_marked(marks: &[bool], net: u32) -> bool
     ensures { result ≡ net_marked marks.now net }
 {
-    (net as usize) < marks.len() && marks[net as usize] == 1
+    (net as usize) < marks.len() && marks[net as usize]
 }
 
 // The record that begins these words is whole and sound, after one of this iteration, its net is marked and its nodes are below the
 // bound.
 #[tactic(auto, unfolding(crate::specs::Routes::record_sound))]
-fn record_sound(marks: &[u8], nodes: usize, words: &[u32], last: u32) -> bool
+fn record_sound(marks: &[bool], nodes: usize, words: &[u32], last: u32) -> bool
     ensures { result ≡ record_sound (named_by marks.now nodes) last words.now }
 {
     6 <= words.len()
@@ -83,7 +83,7 @@ pub fn record_at(log: &[u32], at: usize) -> Record<'_>
 }
 
 // Goes from record to record, each of which is of a marked net and of nodes below the bound.
-pub fn check_log(marks: &[u8], nodes: usize, log: &[u32]) -> Result<SoundLog, UnsoundLog>
+pub fn check_log(marks: &[bool], nodes: usize, log: &[u32]) -> Result<SoundLog, UnsoundLog>
     ensures { checked_at result ≡ log_checked (named_by marks.now nodes) log.now }
 {
     let mut at = 0;

@@ -87,7 +87,7 @@ pub fn node_users(
     ensures answers { users_reply_of result users.new
         ≡ users_reply (below_nodes nodes) log.now users.old }
 {
-    let found = log_check::check_log(&[1u8; NETS_MOST], nodes.min(NODES_MOST), log)?;
+    let found = log_check::check_log(&[true; NETS_MOST], nodes.min(NODES_MOST), log)?;
     count_users(log, users);
     Ok(found)
 }

@@ -3,22 +3,21 @@
 --     join-                            the J lines of one net more
 --     JoinsPassed, joins-              going from net to net
 -- Assumes nothing.
-use mathlib.Core.Bool.{Bool}
+use mathlib.Core.Bool.{Bool, false}
 use mathlib.Core.List.{List, [], ◌∷◌, ◌++◌, append_assoc, append-nil}
 use mathlib.Core.Logic.{⊎_elim}
 use mathlib.Core.Path.{◌≡◌, refl, sym, ◌∙◌, ap, subst}
-use Prim.Native.Nat.{ℕ, ◌+◌, ◌^◌, ◌≤◌, ◌<◌}
+use Prim.Native.Nat.{ℕ, zero, suc, ◌+◌, ◌^◌, ◌≤◌, ◌<◌}
 use native.Mathlib.Numerals.{add-one}
 use native.Mathlib.Omega.{arith}
-use lib.Dec.{ltb}
-use lib.ListN.{length, replicate, set, length-set, length-replicate}
+use lib.Dec.{ltb, eqb}
+use lib.ListN.{get_or, length, replicate, set, length-set, length-replicate}
 use lib.Seq.{get_or-set_same, get_or-set_other}
 use borrow.Author.Tests.{lt-ltb, le-ltb, eq-eqb, ne_eqb}
 use Rattle.price.specs.Test.{both}
 use Rattle.price.proofs.TestLaws.{le_or_lt, same_or_not}
 use Rattle.job.specs.Join.{first_of, leads}
 use Rattle.job.specs.Tables.{nets_most}
-use Rattle.job.proofs.SinkMarkLaws.{unmarked_new}
 use Rattle.text.specs.Lines.{letter_j, print_line}
 use Rattle.text.specs.Routes.{net_writable, Join, joins_before, route_joins, join_text}
 use Rattle.text.specs.WriteSteps.{Filled, net_marked}
@@ -90,21 +89,26 @@ module _ {sources before after : List ℕ} {start next net : ℕ} (p : JoinsPass
 -- ---- the marks of first nets
 
 -- of the nets before one, those that are the first of their source are marked
-pub record FirstMarks (sources marks : List ℕ) (net : ℕ) : Type 0 where
+pub record FirstMarks (sources : List ℕ) (marks : List Bool) (net : ℕ) : Type 0 where
   pub within : net ≤ length sources
   pub long : length marks ≡ nets_most
   pub marked : (i : ℕ) → net_marked marks i ≡ both (ltb i net) (leads sources i)
 
-pub first_none : (sources : List ℕ) → FirstMarks sources (replicate 512 0) 0
+unmarked : (n i : ℕ) → get_or {A = Bool} (replicate n false) i false ≡ false
+unmarked zero i = refl
+unmarked (suc n) zero = refl
+unmarked (suc n) (suc i) = unmarked n i
+
+pub first_none : (sources : List ℕ) → FirstMarks sources (replicate 512 false) 0
 unfolding net_marked
 first_none sources =
     record {
       within = omega arith;
-      long = length-replicate {A = ℕ} 512 0;
-      marked = λ i. rw (unmarked_new 512 i, le-ltb i 0 (omega arith));
+      long = length-replicate {A = Bool} 512 false;
+      marked = λ i. rw (unmarked 512 i, le-ltb i 0 (omega arith));
     }
 
-module _ {sources marks : List ℕ} {net : ℕ} (p : FirstMarks sources marks net) where
+module _ {sources : List ℕ} {marks : List Bool} {net : ℕ} (p : FirstMarks sources marks net) where
   module _ {first : ℕ} (l : net < length sources) (is : first ≡ first_of sources net) where
     same-below : (i : ℕ) → (i ≡ net → ⊥) → ltb i net ≡ ltb i (net + 1)
     same-below i ne =
@@ -114,7 +118,7 @@ module _ {sources marks : List ℕ} {net : ℕ} (p : FirstMarks sources marks ne
         (le_or_lt net i)
 
     -- the net's own mark is right, and the others stand
-    one_more : (later : List ℕ) → length later ≡ nets_most → net_marked later net ≡ leads sources net → ((i : ℕ) → (i ≡ net → ⊥) → net_marked later i ≡ net_marked marks i) → FirstMarks sources later (net + 1)
+    one_more : (later : List Bool) → length later ≡ nets_most → net_marked later net ≡ leads sources net → ((i : ℕ) → (i ≡ net → ⊥) → net_marked later i ≡ net_marked marks i) → FirstMarks sources later (net + 1)
     one_more later long here others =
         record {
           within = omega arith;
@@ -127,19 +131,12 @@ module _ {sources marks : List ℕ} {net : ℕ} (p : FirstMarks sources marks ne
               (same_or_not i net);
         }
 
-    pub first_marked : first ≡ net → length sources ≤ nets_most → FirstMarks sources (set marks net 1) (net + 1)
+    pub first_more : {here : Bool} → here ≡ eqb first net → length sources ≤ nets_most → FirstMarks sources (set marks net here) (net + 1)
     unfolding net_marked leads
-    first_marked e most =
-        one_more (set marks net 1) (length-set marks net 1 ∙ p.long)
-        (rw (get_or-set_same marks net 1 0 (omega (arith, p.long)), eq-eqb (first_of sources net) net (sym is ∙ e)))
-        (λ i ne. rw (get_or-set_other marks net i 1 0 ne))
-
-    pub first_passed : (first ≡ net → ⊥) → FirstMarks sources marks (net + 1)
-    unfolding leads
-    first_passed e =
-        one_more marks p.long
-        (p.marked net ∙ rw (le-ltb net net (omega arith), ne_eqb (first_of sources net) net (λ q. e (is ∙ q))))
-        (λ i ne. refl)
+    first_more {here} e most =
+        one_more (set marks net here) (length-set marks net here ∙ p.long)
+        (get_or-set_same marks net here false (omega (arith, p.long)) ∙ e ∙ rw is)
+        (λ i ne. get_or-set_other marks net i here false ne)
 
   pub first_all : length sources ≤ net → (i : ℕ) → net_marked marks i ≡ net_writable sources i
   unfolding net_writable

@@ -1,6 +1,6 @@
 -- What counting users answers and leaves: nothing is counted of an unsound log, and every node's users of a sound one.
 -- Assumes nothing.
-use mathlib.Core.Bool.{Bool, true}
+use mathlib.Core.Bool.{Bool, true, false}
 use mathlib.Core.List.{List}
 use mathlib.Core.Logic.{⊎_elim}
 use mathlib.Core.Path.{◌≡◌, sym, ◌∙◌, ap, fun_ext}
@@ -25,16 +25,16 @@ use Rattle.text.proofs.RecordTestLaws.{marked_none}
 use Rattle.text.proofs.LogLaws.{found, found_none}
 
 -- where every net below 512 is marked, all of them may have records
-all-marked : net_marked (replicate nets_most 1) ≡ (λ i. ltb i nets_most)
+all-marked : net_marked (replicate nets_most true) ≡ (λ i. ltb i nets_most)
 unfolding net_marked
 all-marked =
     fun_ext (λ i.
     ⊎_elim
-    (λ (l : nets_most ≤ i). marked_none (replicate nets_most 1) i (rw (length-replicate {A = ℕ} nets_most 1) l) ∙ sym (le-ltb i nets_most l))
-    (λ (l : i < nets_most). rw (get_or-replicate {A = ℕ} nets_most i 1 0 l) (sym (lt-ltb i nets_most l)))
+    (λ (l : nets_most ≤ i). marked_none (replicate nets_most true) i (rw (length-replicate {A = Bool} nets_most true) l) ∙ sym (le-ltb i nets_most l))
+    (λ (l : i < nets_most). rw (get_or-replicate {A = Bool} nets_most i true false l) (sym (lt-ltb i nets_most l)))
     (le_or_lt nets_most i))
 
-module _ (nodes : ℕ) (log : List ℕ) {few : ℕ} {r : Result SoundLog UnsoundLog} (bound : few ≡ min nodes nodes_most) (answered : checked_at r ≡ log_checked (named_by (replicate nets_most 1) few) log) where
+module _ (nodes : ℕ) (log : List ℕ) {few : ℕ} {r : Result SoundLog UnsoundLog} (bound : few ≡ min nodes nodes_most) (answered : checked_at r ≡ log_checked (named_by (replicate nets_most true) few) log) where
   tested : {s : Result SoundLog UnsoundLog} → r ≡ s → checked_at s ≡ log_checked (below_nodes nodes) log
   tested e =
       sym (ap checked_at e)

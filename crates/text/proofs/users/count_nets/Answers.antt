@@ -1,6 +1,5 @@
 -- `text::users::count_nets` meets its contract. The loop's invariant: the trees of the nets passed are counted.
 -- Assumes nothing.
-use mathlib.Core.Path.{◌∙◌, sym}
 use Rattle.std.proofs.Common.{rules}
 use Rattle.text.proofs.users.UserLaws.{nets-none, nets-few, nets-more, nets-all}
 use Rattle.text.proofs.users.count_nets.Goals as goal

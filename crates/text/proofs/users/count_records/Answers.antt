@@ -1,7 +1,6 @@
 -- `text::users::count_records` meets its contract. The loop's invariant: the nodes of the net's records passed are counted.
 -- Assumes nothing.
 use mathlib.Core.Path.{◌≡◌, ◌∙◌}
-use native.Mathlib.Omega.{arith}
 use lib.ListN.{length}
 use Rattle.std.proofs.Common.{rules}
 use Rattle.text.proofs.BranchLaws.{rest_fits}
