@@ -6,7 +6,7 @@
 --     SoFar                 the first fields of a line as they are read: none_yet, field-more, fields-end
 -- Assumes nothing.
 use mathlib.Core.Bool.{Bool, true, false}
-use mathlib.Core.List.{List, [], ◌∷◌, ◌++◌, append-nil}
+use mathlib.Core.List.{List, [], ◌∷◌, ◌++◌, append-nil, append_assoc}
 use mathlib.Core.Logic.{⊎_elim}
 use mathlib.Core.Path.{◌≡◌, refl, sym, ◌∙◌, ap}
 use Prim.Native.Nat.{ℕ, zero, suc, ◌+◌, ◌*◌, ◌-◌, ◌^◌, ◌≤◌, ◌<◌}
@@ -14,18 +14,17 @@ use native.Mathlib.Nat.{pow-succ', pow-le-pow_right, mul_assoc, mul-le-mul_left,
 use native.Mathlib.Numerals.{add-one, sub-one}
 use native.Mathlib.Omega.{arith}
 use lib.Dec.{leb, eqb}
-use lib.ListN.{length, get_or, take, drop, drop_of_length-le}
-use lib.Seq.{drop-cons, drop-drop}
+use lib.ListN.{length, get_or, take, drop, set, length-set, drop_of_length-le}
+use lib.Seq.{drop-cons, drop-drop, take-suc-set}
 use borrow.Author.Tests.{le-leb, lt-leb, eq-eqb, ne_eqb, leb-true}
 use Rattle.price.specs.Test.{choose}
 use Rattle.price.proofs.TestLaws.{both_left, both_right, le_or_lt, true≢false}
 use Rattle.text.specs.Decimal.{is_digit}
 use Rattle.text.specs.Lines.{lf, comma, Field, number, fault, digits_after, field, Fields, taken, malformed, with_value, after_field, fields, begins}
-use Rattle.text.specs.Steps.{comma_field, After, field_at, FieldPlace, place_after, no_fields, with_field, line_end, fields_at, FieldsPlace}
+use Rattle.text.specs.Steps.{comma_field, After, field_at, FieldPlace, fields_at, FieldsPlace}
+use Rattle.core.specs.declared.option.Option.{Option}
+use Rattle.core.specs.declared.option.Option.TheVariants.{Some, None}
 use Rattle.text.specs.declared.fields.Field as field_type
-use Rattle.text.specs.declared.fields.Field.TheVariants as f
-use Rattle.text.specs.declared.fields.LineFields.{LineFields}
-use Rattle.text.specs.declared.fields.LineFields.TheVariants as l
 
 -- ---- the byte at a place
 
@@ -169,12 +168,14 @@ unfolding begins comma_field
 comma_other [] e = refl
 comma_other (b ∷ bs) e = rw e
 
-place_earlier : (at : ℕ) (text : List ℕ) (r : field_type.Field) → FieldPlace (at + 1) text r → FieldPlace at text r
-place_earlier at text (f.Number value next) p = (omega arith, p.1)
-place_earlier at text f.Fault p = tt
+place_earlier : (at : ℕ) (text : List ℕ) (r : Option field_type.Field) → FieldPlace (at + 1) text r → FieldPlace at text r
+place_earlier at text (Some f) p = (omega arith, p.1)
+place_earlier at text None p = tt
 
 -- what is read from the next place on
-pub field-onward : (at : ℕ) (text : List ℕ) (r : field_type.Field) {here onward : Field} → (field_at text r ≡ onward) × FieldPlace (at + 1) text r → here ≡ onward → (field_at text r ≡ here) × FieldPlace at text r
+pub field-onward :
+    (at : ℕ) (text : List ℕ) (r : Option field_type.Field) {here onward : Field} → (field_at text r ≡ onward) × FieldPlace (at + 1) text r → here ≡ onward
+    → (field_at text r ≡ here) × FieldPlace at text r
 field-onward at text r p e = (p.0 ∙ sym e, place_earlier at text r p.1)
 
 -- ---- the fields of a line
@@ -210,86 +211,67 @@ none_before (taken ws rest) = refl
 none_before malformed = refl
 
 -- one value more: field k takes its place behind those before it
-one_more :
-    (k v a b c d : ℕ) (x : Fields) → k < 4
-    → with_values (take k (a ∷ b ∷ c ∷ d ∷ [])) (with_value v x)
-    ≡ with_values (take (k + 1) (choose (eqb k 0) v a ∷ choose (eqb k 1) v b ∷ choose (eqb k 2) v c ∷ choose (eqb k 3) v d ∷ [])) x
-one_more k v a b c d malformed few = refl
-one_more zero v a b c d (taken ws rest) few = refl
-one_more (suc zero) v a b c d (taken ws rest) few = refl
-one_more (suc (suc zero)) v a b c d (taken ws rest) few = refl
-one_more (suc (suc (suc zero))) v a b c d (taken ws rest) few = refl
-one_more (suc (suc (suc (suc k)))) v a b c d (taken ws rest) few = absurd (omega arith)
+one_more : (k v : ℕ) (vs : List ℕ) (x : Fields) → k < length vs → with_values (take k vs) (with_value v x) ≡ with_values (take (k + 1) (set vs k v)) x
+one_more k v vs malformed few = refl
+one_more k v vs (taken ws rest) few = rw (add-one k, take-suc-set vs k v few) (ap (λ (us : List ℕ). taken us rest) (sym (append_assoc (take k vs) (v ∷ []) ws)))
 
--- the first k of a line's fields have been read, from one place to another; the line is the values and what is left
-abbrev pub SoFar : (count k from at : ℕ) (text : List ℕ) → LineFields → Type 0
-SoFar count k from at text (l.Fields a b c d next) =
-    (from ≤ at) × (count ≤ 4 → fields count (drop from text) ≡ with_values (take k (a ∷ b ∷ c ∷ d ∷ [])) (fields (count - k) (drop at text)))
-SoFar count k from at text l.Fault = count ≤ 4 → fields count (drop from text) ≡ malformed
+-- the first k of a line's fields have been read, from one place to another
+pub record SoFar (count k from at : ℕ) (text vs : List ℕ) : Type 0 where
+  pub on : from ≤ at
+  pub room : length vs ≡ 4
+  pub same : fields count (drop from text) ≡ with_values (take k vs) (fields (count - k) (drop at text))
 
-pub none_yet : (count at : ℕ) (text : List ℕ) → SoFar count 0 at at text no_fields
-none_yet count at text =
-    let same : count - 0 ≡ count = omega arith in
-    (omega arith, λ few. rw same (sym (none_before (fields count (drop at text)))))
+pub none_yet : (count at : ℕ) (text vs : List ℕ) → length vs ≡ 4 → SoFar count 0 at at text vs
+none_yet count at text vs four =
+    let all : count - 0 ≡ count = omega arith in
+    record { on = omega arith; room = four; same = rw all (sym (none_before (fields count (drop at text)))) }
 
-module _ (count k from at : ℕ) (text : List ℕ) (due : k < count) where
-  -- what is left begins with a field
-  rest_is : fields (count - k) (drop at text) ≡ after_field (comma_field (drop at text)) (λ rest. fields (count - (k + 1)) rest)
-  rest_is =
-      let left : count - k ≡ suc (count - (k + 1)) = omega arith in
-      rw left (fields_suc (count - (k + 1)) (drop at text))
+module _ {count k from at : ℕ} {text vs : List ℕ} (so_far : SoFar count k from at text vs) where
+  module _ (few : count ≤ 4) (due : k < count) where
+    -- what is left begins with a field
+    rest_is : fields (count - k) (drop at text) ≡ after_field (comma_field (drop at text)) (λ rest. fields (count - (k + 1)) rest)
+    rest_is =
+        let left : count - k ≡ suc (count - (k + 1)) = omega arith in
+        rw left (fields_suc (count - (k + 1)) (drop at text))
 
-  -- field k is read
-  pub field-more :
-      (line : LineFields) (read : field_type.Field) → field_at text read ≡ comma_field (drop at text) → FieldPlace at text read
-      → SoFar count k from at text line → SoFar count (k + 1) from (place_after read at) text (with_field line k read)
-  field-more l.Fault read e p so_far = so_far
-  field-more (l.Fields a b c d next) f.Fault e p so_far = λ few. so_far.1 few ∙ rw (rest_is, sym e)
-  field-more (l.Fields a b c d next) (f.Number v n) e p so_far = (
-    omega (arith, so_far.0, p.0),
-    λ few. so_far.1 few ∙ rw (rest_is, sym e) (one_more k v a b c d (fields (count - (k + 1)) (drop n text)) (omega arith)),
-  )
+    -- a fault is the line's
+    pub field-fault : {read : Option field_type.Field} → read ≡ None → field_at text read ≡ comma_field (drop at text) → malformed ≡ fields count (drop from text)
+    field-fault is e = sym (so_far.same ∙ rw (rest_is, ← e, is))
 
--- what the functions of a line's fields give, by their answers
-module _ {line : LineFields} {a b c d before : ℕ} (is : line ≡ l.Fields a b c d before) where
-  pub with_fault : (k : ℕ) {read : field_type.Field} → read ≡ f.Fault → l.Fault ≡ with_field line k read
-  with_fault k e = rw (is, e)
+    -- field k is read
+    pub field-more :
+        {f : field_type.Field} {read : Option field_type.Field} → read ≡ Some f → field_at text read ≡ comma_field (drop at text) → FieldPlace at text read
+        → SoFar count (k + 1) from f.next text (set vs k f.value)
+    field-more {f} is e p =
+        let place : After at text f.next = rw is at p in
+        let here : k < length vs = omega (arith, so_far.room) in
+        let more : fields count (drop from text) ≡ with_values (take (k + 1) (set vs k f.value)) (fields (count - (k + 1)) (drop f.next text)) =
+        so_far.same ∙ rw (rest_is, ← e, is) (one_more k f.value vs (fields (count - (k + 1)) (drop f.next text)) here) in
+        record { on = omega (arith, so_far.on, place.0); room = length-set vs k f.value ∙ so_far.room; same = more }
 
-  pub with_number :
-      (k : ℕ) {v next a' b' c' d' : ℕ} {read : field_type.Field} → read ≡ f.Number v next → a' ≡ choose (eqb k 0) v a → b' ≡ choose (eqb k 1) v b
-      → c' ≡ choose (eqb k 2) v c → d' ≡ choose (eqb k 3) v d → l.Fields a' b' c' d' next ≡ with_field line k read
-  with_number k e one two three four = rw (is, e, one, two, three, four)
-
-  pub end-missing : (at : ℕ) (text : List ℕ) → begins lf (drop at text) ≡ false → l.Fault ≡ line_end text at line
-  end-missing at text e = rw (is, e)
-
-  pub end-there : (at : ℕ) (text : List ℕ) → begins lf (drop at text) ≡ true → l.Fields a b c d (at + 1) ≡ line_end text at line
-  end-there at text e = rw (is, e)
+four_are : (vs : List ℕ) → length vs ≡ 4 → get_or vs 0 0 ∷ get_or vs 1 0 ∷ get_or vs 2 0 ∷ get_or vs 3 0 ∷ [] ≡ vs
+four_are (a ∷ b ∷ c ∷ d ∷ []) e = refl
+four_are [] e = absurd (omega arith)
+four_are (a ∷ []) e = absurd (omega arith)
+four_are (a ∷ b ∷ []) e = absurd (omega arith)
+four_are (a ∷ b ∷ c ∷ []) e = absurd (omega arith)
+four_are (a ∷ b ∷ c ∷ d ∷ x ∷ xs) e = absurd (omega arith)
 
 -- all fields have been read, and the LF stands after them or doesn't
-module _ (count from at a b c d : ℕ) (text : List ℕ) (on : from ≤ at) (is : count ≤ 4 → fields count (drop from text) ≡ with_values (take count (a ∷ b ∷ c ∷ d ∷ [])) (fields (count - count) (drop at text))) where
-  abbrev Ends : LineFields → Type 0
-  Ends line = (count ≤ 4 → fields_at count text line ≡ fields count (drop from text)) × FieldsPlace from text line
+module _ {count from at : ℕ} {text vs : List ℕ} (so_far : SoFar count count from at text vs) where
+  none : count - count ≡ 0
+  none = omega arith
 
-  ends_by : (t : Bool) → begins lf (drop at text) ≡ t → Ends (choose t (l.Fields a b c d (at + 1)) l.Fault)
-  ends_by true e =
-      let none : count - count ≡ 0 = omega arith in
-      let inside : at < length text = begins-within lf at text e in
+  pub end-there :
+      begins lf (drop at text) ≡ true
+      → taken (take count (get_or vs 0 0 ∷ get_or vs 1 0 ∷ get_or vs 2 0 ∷ get_or vs 3 0 ∷ [])) (drop (at + 1) text) ≡ fields count (drop from text)
+  end-there e =
       let end : fields (count - count) (drop at text) ≡ taken [] (drop (at + 1) text) =
       rw none (fields_nil (drop at text) e ∙ ap (taken []) (drop-drop 1 at text)) in
-      let vs = take count (a ∷ b ∷ c ∷ d ∷ []) in (
-        λ few. sym (is few ∙ ap (with_values vs) end ∙ ap (λ (ws : List ℕ). taken ws (drop (at + 1) text)) (append-nil vs)),
-        (omega arith, omega arith),
-      )
-  ends_by false e =
-      let none : count - count ≡ 0 = omega arith in
-      let vs = take count (a ∷ b ∷ c ∷ d ∷ []) in
-      let end : fields (count - count) (drop at text) ≡ malformed = rw none (fields_no_end (drop at text) e) in
-      (λ few. sym (is few ∙ ap (with_values vs) end), tt)
+      ap (λ (us : List ℕ). taken (take count us) (drop (at + 1) text)) (four_are vs so_far.room)
+      ∙ sym (so_far.same ∙ ap (with_values (take count vs)) end ∙ ap (λ (ws : List ℕ). taken ws (drop (at + 1) text)) (append-nil (take count vs)))
 
-pub fields-end :
-    (count from at : ℕ) (text : List ℕ) (line : LineFields) → SoFar count count from at text line
-    → (count ≤ 4 → fields_at count text (line_end text at line) ≡ fields count (drop from text)) × FieldsPlace from text (line_end text at line)
-fields-end count from at text l.Fault so_far = (λ few. sym (so_far few), tt)
-fields-end count from at text (l.Fields a b c d next) so_far =
-    ends_by count from at a b c d text so_far.0 so_far.1 (begins lf (drop at text)) refl
+  pub end-missing : begins lf (drop at text) ≡ false → malformed ≡ fields count (drop from text)
+  end-missing e =
+      let end : fields (count - count) (drop at text) ≡ malformed = rw none (fields_no_end (drop at text) e) in
+      sym (so_far.same ∙ ap (with_values (take count vs)) end)

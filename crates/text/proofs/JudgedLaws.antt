@@ -17,8 +17,9 @@ use Rattle.price.proofs.TestLaws.{by_test, true≢false}
 use Rattle.text.specs.Lines.{Fields, taken, malformed, fields, line, begins}
 use Rattle.text.specs.JobText.{Reading, values, refused, judged, Part, onward, taking}
 use Rattle.text.specs.Steps.{After, fields_at, FieldsPlace}
+use Rattle.core.specs.declared.option.Option.{Option}
+use Rattle.core.specs.declared.option.Option.TheVariants.{Some, None}
 use Rattle.text.specs.declared.fields.LineFields.{LineFields}
-use Rattle.text.specs.declared.fields.LineFields.TheVariants as lf
 
 -- ---- a line at a place of the text
 
@@ -39,16 +40,16 @@ line-is letter k at text b e =
 
 -- ---- the fields of a line, as their answer says them
 
-module _ (count : ℕ) (text : List ℕ) {r : LineFields} {fs : Fields} (read : fields_at count text r ≡ fs) where
-  pub line-malformed : r ≡ lf.Fault → fs ≡ malformed
+module _ (count : ℕ) (text : List ℕ) {r : Option LineFields} {fs : Fields} (read : fields_at count text r ≡ fs) where
+  pub line-malformed : r ≡ None → fs ≡ malformed
   line-malformed e = sym read ∙ ap (fields_at count text) e
 
-  pub line_taken : {a b c d next : ℕ} → r ≡ lf.Fields a b c d next → fs ≡ taken (take count (a ∷ b ∷ c ∷ d ∷ [])) (drop next text)
+  pub line_taken : {l : LineFields} → r ≡ Some l → fs ≡ taken (take count (l.first ∷ l.second ∷ l.third ∷ l.fourth ∷ [])) (drop l.next text)
   line_taken e = sym read ∙ ap (fields_at count text) e
 
 -- the place after them
-pub line_place : (at : ℕ) (text : List ℕ) {r : LineFields} {a b c d next : ℕ} → r ≡ lf.Fields a b c d next → FieldsPlace at text r → After at text next
-line_place at text e p = subst (λ (x : LineFields). FieldsPlace at text x) e p
+pub line_place : (at : ℕ) (text : List ℕ) {r : Option LineFields} {l : LineFields} → r ≡ Some l → FieldsPlace at text r → After at text l.next
+line_place at text e p = subst (λ (x : Option LineFields). FieldsPlace at text x) e p
 
 -- ---- 1, 2 or 3, or the values
 

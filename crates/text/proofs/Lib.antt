@@ -13,8 +13,6 @@
 --     OptionalLineLaws  a line that may be left out: P, V and W
 --     NetLineLaws       an S or a T line
 -- The whole text, for the functions that read it:
---     StoppedLaws       a text that is stopped at a line is refused by 1, 2 or 3
---     CopyLaws          copying the first entries of a table
 --     ReadJobLaws       row 4, then 15, and the tables afterwards
 --     SizeLaws          which jobs tables are long enough for, and how long what the program lends is
 -- What is read against what is printed, for TextHolds:
@@ -50,8 +48,6 @@ pub mod FieldLaws
 pub mod JudgedLaws
 pub mod OptionalLineLaws
 pub mod NetLineLaws
-pub mod CopyLaws
-pub mod StoppedLaws
 pub mod ReadJobLaws
 pub mod SizeLaws
 pub mod DecimalLaws

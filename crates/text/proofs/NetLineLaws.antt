@@ -25,13 +25,15 @@ use Rattle.search.specs.Replies.{sinks_most}
 use Rattle.job.specs.Tables.{sink_kind}
 use Rattle.text.specs.Lines.{letter_s, letter_t, taken, line}
 use Rattle.text.specs.JobText.{Reading, values, refused, pin_within, source_line, sink_ordered, sink_within, sink_line, taking, of_kind}
-use Rattle.text.specs.Steps.{After, fields_at, three_of, pin_at, PinPlace, sink_at, SinkPlace, Marked}
+use Rattle.text.specs.Steps.{row, After, fields_at, three_of, pin_at, PinPlace, sink_at, SinkPlace, Marked}
+use Rattle.core.specs.declared.option.Option.{Option}
+use Rattle.core.specs.declared.option.Option.TheVariants.{Some, None}
+use Rattle.core.specs.declared.result.Result.{Result}
+use Rattle.core.specs.declared.result.Result.TheVariants.{Ok, Err}
 use Rattle.text.specs.declared.fields.LineFields.{LineFields}
-use Rattle.text.specs.declared.fields.LineFields.TheVariants as lf
-use Rattle.text.specs.declared.nets.PinLine.{PinLine}
-use Rattle.text.specs.declared.nets.PinLine.TheVariants as pl
-use Rattle.text.specs.declared.nets.SinkLine.{SinkLine}
-use Rattle.text.specs.declared.nets.SinkLine.TheVariants as sl
+use Rattle.text.specs.declared.place.LineFault.{LineFault}
+use Rattle.text.specs.declared.nets.Pin.{Pin}
+use Rattle.text.specs.declared.nets.Sink.{Sink}
 use Rattle.text.proofs.JudgedLaws.{line-malformed, line_taken, judged-beyond, judged_wrong, judged-taken, judged-values, taking-values}
 
 -- ---- the tests of a pin
@@ -51,33 +53,33 @@ module _ (n nets f s : ℕ) where
 
 -- ---- the S line
 
-module _ (n nets i at : ℕ) (text : List ℕ) (r : LineFields) (e : fields_at 2 text r ≡ line letter_s 2 (drop at text)) where
-  pub source-fault : r ≡ lf.Fault → refused 1 ≡ source_line n nets i (drop at text)
+module _ (n nets i at : ℕ) (text : List ℕ) (r : Option LineFields) (e : fields_at 2 text r ≡ line letter_s 2 (drop at text)) where
+  pub source-fault : r ≡ None → refused 1 ≡ source_line n nets i (drop at text)
   unfolding source_line
   source-fault q = rw (line-malformed 2 text e q)
 
-  module _ {f s c d next : ℕ} (q : r ≡ lf.Fields f s c d next) where
-    source-fields : line letter_s 2 (drop at text) ≡ taken (f ∷ s ∷ []) (drop next text)
+  module _ {y : LineFields} (q : r ≡ Some y) where
+    source-fields : line letter_s 2 (drop at text) ≡ taken (y.first ∷ y.second ∷ []) (drop y.next text)
     source-fields = line_taken 2 text e q
 
-    pub source-net : nets ≤ f → refused 2 ≡ source_line n nets i (drop at text)
+    pub source-net : nets ≤ y.first → refused 2 ≡ source_line n nets i (drop at text)
     unfolding source_line
-    source-net h = sym (judged-beyond (pin_within n nets) (λ vs. eqb (get_or vs 0 0) i) source-fields (beyond-nets n nets f s h))
+    source-net h = sym (judged-beyond (pin_within n nets) (λ vs. eqb (get_or vs 0 0) i) source-fields (beyond-nets n nets y.first y.second h))
 
-    pub source-node : n ≤ s → refused 2 ≡ source_line n nets i (drop at text)
+    pub source-node : n ≤ y.second → refused 2 ≡ source_line n nets i (drop at text)
     unfolding source_line
-    source-node h = sym (judged-beyond (pin_within n nets) (λ vs. eqb (get_or vs 0 0) i) source-fields (beyond-nodes n nets f s h))
+    source-node h = sym (judged-beyond (pin_within n nets) (λ vs. eqb (get_or vs 0 0) i) source-fields (beyond-nodes n nets y.first y.second h))
 
-    module _ (in-nets : f < nets) (in-nodes : s < n) where
-      pub source-order : (f ≡ i → ⊥) → refused 3 ≡ source_line n nets i (drop at text)
+    module _ (in-nets : y.first < nets) (in-nodes : y.second < n) where
+      pub source-order : (y.first ≡ i → ⊥) → refused 3 ≡ source_line n nets i (drop at text)
       unfolding source_line
-      source-order h = sym (judged_wrong (pin_within n nets) (λ vs. eqb (get_or vs 0 0) i) source-fields (within_both n nets f s in-nets in-nodes) (ne_eqb f i h))
+      source-order h = sym (judged_wrong (pin_within n nets) (λ vs. eqb (get_or vs 0 0) i) source-fields (within_both n nets y.first y.second in-nets in-nodes) (ne_eqb y.first i h))
 
-      pub source_pin : f ≡ i → values (i ∷ s ∷ []) (drop next text) ≡ source_line n nets i (drop at text)
+      pub source_pin : y.first ≡ i → values (i ∷ y.second ∷ []) (drop y.next text) ≡ source_line n nets i (drop at text)
       unfolding source_line
       source_pin h =
-          ap (λ (x : ℕ). values (x ∷ s ∷ []) (drop next text)) (sym h)
-          ∙ sym (judged-taken (pin_within n nets) (λ vs. eqb (get_or vs 0 0) i) source-fields (within_both n nets f s in-nets in-nodes) (eq-eqb f i h))
+          ap (λ (x : ℕ). values (x ∷ y.second ∷ []) (drop y.next text)) (sym h)
+          ∙ sym (judged-taken (pin_within n nets) (λ vs. eqb (get_or vs 0 0) i) source-fields (within_both n nets y.first y.second in-nets in-nodes) (eq-eqb y.first i h))
 
 -- ---- the T line
 
@@ -127,67 +129,67 @@ module _ (i : ℕ) (pins : List ℕ) (count f s t : ℕ) where
   in_order h g l = rw (eq-eqb f i h, g, lt-ltb count sinks_most l)
 
 module _
-    (timed : Bool) (n nets i at count : ℕ) (text : List ℕ) {many : ℕ} {r : LineFields} (numbers : many ≡ choose timed 3 2)
+    (timed : Bool) (n nets i at count : ℕ) (text : List ℕ) {many : ℕ} {r : Option LineFields} (numbers : many ≡ choose timed 3 2)
     (e : fields_at many text r ≡ line letter_t many (drop at text)) where
-  pub sink-fault : (pins : List ℕ) → r ≡ lf.Fault → refused 1 ≡ taking three_of (sink_line timed n nets i pins count (drop at text))
+  pub sink-fault : (pins : List ℕ) → r ≡ None → refused 1 ≡ taking three_of (sink_line timed n nets i pins count (drop at text))
   unfolding sink_line
   sink-fault pins q = rw (← numbers, line-malformed many text e q)
 
-  module _ {f s t d tenths next : ℕ} (q : r ≡ lf.Fields f s t d next) (weighed : tenths ≡ choose timed t 0) where
-    sink-fields : line letter_t (choose timed 3 2) (drop at text) ≡ taken (take (choose timed 3 2) (f ∷ s ∷ t ∷ d ∷ [])) (drop next text)
+  module _ {y : LineFields} {tenths : ℕ} (q : r ≡ Some y) (weighed : tenths ≡ choose timed y.third 0) where
+    sink-fields : line letter_t (choose timed 3 2) (drop at text) ≡ taken (take (choose timed 3 2) (y.first ∷ y.second ∷ y.third ∷ y.fourth ∷ [])) (drop y.next text)
     sink-fields = rw (← numbers) (line_taken many text e q)
 
-    three : three_of (take (choose timed 3 2) (f ∷ s ∷ t ∷ d ∷ [])) ≡ f ∷ s ∷ tenths ∷ []
-    three = rw weighed (numbers_three timed f s t d)
+    three : three_of (take (choose timed 3 2) (y.first ∷ y.second ∷ y.third ∷ y.fourth ∷ [])) ≡ y.first ∷ y.second ∷ tenths ∷ []
+    three = rw weighed (numbers_three timed y.first y.second y.third y.fourth)
 
-    within : sink_within n nets (take (choose timed 3 2) (f ∷ s ∷ t ∷ d ∷ [])) ≡ sink_within n nets (f ∷ s ∷ tenths ∷ [])
+    within : sink_within n nets (take (choose timed 3 2) (y.first ∷ y.second ∷ y.third ∷ y.fourth ∷ [])) ≡ sink_within n nets (y.first ∷ y.second ∷ tenths ∷ [])
     unfolding sink_within pin_within
     within = ap (sink_within n nets) three
 
-    ordered : (pins : List ℕ) → sink_ordered i pins count (take (choose timed 3 2) (f ∷ s ∷ t ∷ d ∷ [])) ≡ sink_ordered i pins count (f ∷ s ∷ tenths ∷ [])
+    ordered : (pins : List ℕ) → sink_ordered i pins count (take (choose timed 3 2) (y.first ∷ y.second ∷ y.third ∷ y.fourth ∷ [])) ≡ sink_ordered i pins count (y.first ∷ y.second ∷ tenths ∷ [])
     unfolding sink_ordered
     ordered pins = ap (sink_ordered i pins count) three
 
-    sink-beyond : (pins : List ℕ) → sink_within n nets (f ∷ s ∷ tenths ∷ []) ≡ false → refused 2 ≡ taking three_of (sink_line timed n nets i pins count (drop at text))
+    sink-beyond : (pins : List ℕ) → sink_within n nets (y.first ∷ y.second ∷ tenths ∷ []) ≡ false → refused 2 ≡ taking three_of (sink_line timed n nets i pins count (drop at text))
     unfolding sink_line
     sink-beyond pins w = sym (ap (taking three_of) (judged-beyond (sink_within n nets) (sink_ordered i pins count) sink-fields (within ∙ w)))
 
-    pub sink-net : (pins : List ℕ) → nets ≤ f → refused 2 ≡ taking three_of (sink_line timed n nets i pins count (drop at text))
-    sink-net pins h = sink-beyond pins (sink-beyond-nets n nets f s tenths h)
+    pub sink-net : (pins : List ℕ) → nets ≤ y.first → refused 2 ≡ taking three_of (sink_line timed n nets i pins count (drop at text))
+    sink-net pins h = sink-beyond pins (sink-beyond-nets n nets y.first y.second tenths h)
 
-    pub sink-node : (pins : List ℕ) → n ≤ s → refused 2 ≡ taking three_of (sink_line timed n nets i pins count (drop at text))
-    sink-node pins h = sink-beyond pins (sink-beyond-nodes n nets f s tenths h)
+    pub sink-node : (pins : List ℕ) → n ≤ y.second → refused 2 ≡ taking three_of (sink_line timed n nets i pins count (drop at text))
+    sink-node pins h = sink-beyond pins (sink-beyond-nodes n nets y.first y.second tenths h)
 
     pub sink_tenths : (pins : List ℕ) → 9 < tenths → refused 2 ≡ taking three_of (sink_line timed n nets i pins count (drop at text))
-    sink_tenths pins h = sink-beyond pins (sink-beyond_tenths n nets f s tenths h)
+    sink_tenths pins h = sink-beyond pins (sink-beyond_tenths n nets y.first y.second tenths h)
 
-    module _ (in-nets : f < nets) (in-nodes : s < n) (few : tenths ≤ 9) where
-      sink_wrong : (pins : List ℕ) → sink_ordered i pins count (f ∷ s ∷ tenths ∷ []) ≡ false → refused 3 ≡ taking three_of (sink_line timed n nets i pins count (drop at text))
+    module _ (in-nets : y.first < nets) (in-nodes : y.second < n) (few : tenths ≤ 9) where
+      sink_wrong : (pins : List ℕ) → sink_ordered i pins count (y.first ∷ y.second ∷ tenths ∷ []) ≡ false → refused 3 ≡ taking three_of (sink_line timed n nets i pins count (drop at text))
       unfolding sink_line
       sink_wrong pins o =
-          sym (ap (taking three_of) (judged_wrong (sink_within n nets) (sink_ordered i pins count) sink-fields (within ∙ sink_within_lem n nets f s tenths in-nets in-nodes few) (ordered pins ∙ o)))
+          sym (ap (taking three_of) (judged_wrong (sink_within n nets) (sink_ordered i pins count) sink-fields (within ∙ sink_within_lem n nets y.first y.second tenths in-nets in-nodes few) (ordered pins ∙ o)))
 
-      pub sink-order : (pins : List ℕ) → (f ≡ i → ⊥) → refused 3 ≡ taking three_of (sink_line timed n nets i pins count (drop at text))
-      sink-order pins h = sink_wrong pins (other_net i pins count f s tenths h)
+      pub sink-order : (pins : List ℕ) → (y.first ≡ i → ⊥) → refused 3 ≡ taking three_of (sink_line timed n nets i pins count (drop at text))
+      sink-order pins h = sink_wrong pins (other_net i pins count y.first y.second tenths h)
 
       pub sink-seen :
-          (stamp : ℕ) (seen pins : List ℕ) → Marked n stamp seen pins → get_or seen s 0 ≡ stamp
+          (stamp : ℕ) (seen pins : List ℕ) → Marked n stamp seen pins → get_or seen y.second 0 ≡ stamp
           → refused 3 ≡ taking three_of (sink_line timed n nets i pins count (drop at text))
       sink-seen stamp seen pins m h =
-          sink_wrong pins (seen_before i pins count f s tenths (sym (m s in-nodes) ∙ eq-eqb (get_or seen s 0) stamp h))
+          sink_wrong pins (seen_before i pins count y.first y.second tenths (sym (m y.second in-nodes) ∙ eq-eqb (get_or seen y.second 0) stamp h))
 
       pub sink_many : (pins : List ℕ) → sinks_most ≤ count → refused 3 ≡ taking three_of (sink_line timed n nets i pins count (drop at text))
-      sink_many pins h = sink_wrong pins (too_many i pins count f s tenths h)
+      sink_many pins h = sink_wrong pins (too_many i pins count y.first y.second tenths h)
 
       pub sink_pin :
-          (stamp : ℕ) (seen pins : List ℕ) → Marked n stamp seen pins → f ≡ i → (get_or seen s 0 ≡ stamp → ⊥) → count < sinks_most
-          → values (i ∷ s ∷ tenths ∷ []) (drop next text) ≡ taking three_of (sink_line timed n nets i pins count (drop at text))
+          (stamp : ℕ) (seen pins : List ℕ) → Marked n stamp seen pins → y.first ≡ i → (get_or seen y.second 0 ≡ stamp → ⊥) → count < sinks_most
+          → values (i ∷ y.second ∷ tenths ∷ []) (drop y.next text) ≡ taking three_of (sink_line timed n nets i pins count (drop at text))
       unfolding sink_line
       sink_pin stamp seen pins m h g l =
-          ap (λ (x : ℕ). values (x ∷ s ∷ tenths ∷ []) (drop next text)) (sym h)
-          ∙ ap (λ (vs : List ℕ). values vs (drop next text)) (sym three)
-          ∙ sym (ap (taking three_of) (judged-taken (sink_within n nets) (sink_ordered i pins count) sink-fields (within ∙ sink_within_lem n nets f s tenths in-nets in-nodes few)
-          (ordered pins ∙ in_order i pins count f s tenths h (sym (m s in-nodes) ∙ ne_eqb (get_or seen s 0) stamp g) l)))
+          ap (λ (x : ℕ). values (x ∷ y.second ∷ tenths ∷ []) (drop y.next text)) (sym h)
+          ∙ ap (λ (vs : List ℕ). values vs (drop y.next text)) (sym three)
+          ∙ sym (ap (taking three_of) (judged-taken (sink_within n nets) (sink_ordered i pins count) sink-fields (within ∙ sink_within_lem n nets y.first y.second tenths in-nets in-nodes few)
+          (ordered pins ∙ in_order i pins count y.first y.second tenths h (sym (m y.second in-nodes) ∙ ne_eqb (get_or seen y.second 0) stamp g) l)))
 
 -- ---- the pin's kind
 
@@ -270,22 +272,22 @@ sink-few timed kinds n nets i pins count bs {vs} {rest} e =
     (both_right (not (has (get_or given 1 0) pins)) (ltb count sinks_most)
     (both_right (eqb (get_or given 0 0) i) (both (not (has (get_or given 1 0) pins)) (ltb count sinks_most)) answered.order))
 
-module _ (i : ℕ) (text : List ℕ) {p : PinLine} {r : Reading (List ℕ)} (e : pin_at i text p ≡ r) where
-  pub pin_reading : {node next : ℕ} → p ≡ pl.Pin node next → r ≡ values (i ∷ node ∷ []) (drop next text)
+module _ (i : ℕ) (text : List ℕ) {x : Result Pin LineFault} {r : Reading (List ℕ)} (e : pin_at i text x ≡ r) where
+  pub pin_reading : {p : Pin} → x ≡ Ok p → r ≡ values (i ∷ p.node ∷ []) (drop p.next text)
   pin_reading q = sym e ∙ ap (pin_at i text) q
 
-  pub pin_refused : {k : ℕ} → p ≡ pl.Refused k → r ≡ refused k
+  pub pin_refused : {k : LineFault} → x ≡ Err k → r ≡ refused (row k)
   pin_refused q = sym e ∙ ap (pin_at i text) q
 
-pub pin_place : (n at : ℕ) (text : List ℕ) {p : PinLine} {node next : ℕ} → p ≡ pl.Pin node next → PinPlace n at text p → After (at + 1) text next × (node < n)
+pub pin_place : (n at : ℕ) (text : List ℕ) {x : Result Pin LineFault} {p : Pin} → x ≡ Ok p → PinPlace n at text x → After (at + 1) text p.next × (p.node < n)
 pin_place n at text q h = rw q at h
 
-module _ (i : ℕ) (text : List ℕ) {p : SinkLine} {r : Reading (List ℕ)} (e : sink_at i text p ≡ r) where
-  pub sink_reading : {node tenths next : ℕ} → p ≡ sl.Sink node tenths next → r ≡ values (i ∷ node ∷ tenths ∷ []) (drop next text)
+module _ (i : ℕ) (text : List ℕ) {x : Result Sink LineFault} {r : Reading (List ℕ)} (e : sink_at i text x ≡ r) where
+  pub sink_reading : {s : Sink} → x ≡ Ok s → r ≡ values (i ∷ s.node ∷ s.criticality ∷ []) (drop s.next text)
   sink_reading q = sym e ∙ ap (sink_at i text) q
 
-  pub sink-refused : {k : ℕ} → p ≡ sl.Refused k → r ≡ refused k
+  pub sink-refused : {k : LineFault} → x ≡ Err k → r ≡ refused (row k)
   sink-refused q = sym e ∙ ap (sink_at i text) q
 
-pub sink_place : (n at : ℕ) (text : List ℕ) {p : SinkLine} {node tenths next : ℕ} → p ≡ sl.Sink node tenths next → SinkPlace n at text p → After (at + 1) text next × (node < n)
+pub sink_place : (n at : ℕ) (text : List ℕ) {x : Result Sink LineFault} {s : Sink} → x ≡ Ok s → SinkPlace n at text x → After (at + 1) text s.next × (s.node < n)
 sink_place n at text q h = rw q at h

@@ -16,10 +16,15 @@ use Rattle.job.specs.Job.{Job}
 use Rattle.job.specs.Tables.{exceeds}
 use Rattle.job.specs.declared.Terms.{Terms}
 use Rattle.text.specs.JobText.{Part, read_text}
-use Rattle.text.specs.ReadReplies.{Tables, ReadReply, not_read, lowest_short, short_times, short_untimed, short_table, written_over, tables_with, terms_numbers, job_numbers, stored_reply, reply_to, read_reply}
-use Rattle.text.specs.ReadSteps.{lowest_of_nine, RoomForAll, CountsWithin, job_taken, job_at, JobPlace, Over}
-use Rattle.text.specs.declared.reader.JobLines.{JobLines}
-use Rattle.text.specs.declared.reader.JobLines.TheVariants as jl
+use Rattle.text.specs.ReadReplies.{Tables, ReadReply, not_read, refusal_numbers, lowest_short, short_times, short_untimed, short_table, written_over, tables_with, terms_numbers, job_numbers, stored_reply, reply_to, read_reply}
+use Rattle.text.specs.Steps.{row}
+use Rattle.text.specs.ReadSteps.{lowest_of_nine, RoomForAll, CountsWithin, job_taken, job_at, JobPlace, at_line, line_refusal, Over}
+use Rattle.core.specs.declared.result.Result.{Result}
+use Rattle.core.specs.declared.result.Result.TheVariants.{Ok, Err}
+use Rattle.text.specs.declared.JobCounts.{JobCounts}
+use Rattle.text.specs.declared.place.LineRefusal.{LineRefusal}
+use Rattle.text.specs.declared.place.LineFault.{LineFault}
+use Rattle.text.specs.declared.place.LineFault.TheVariants.{Malformed, BeyondBounds, WrongOrder}
 
 -- each table's turn in row 4
 module _ (n edges nets count kinds capacities first_edges edge_targets sources first_sinks sinks : ℕ) where
@@ -161,7 +166,7 @@ module _
     (room : RoomForAll kinds capacities first_edges edge_targets sources first_sinks sinks delays criticalities) (within : CountsWithin n edges nets)
     (few : count ≤ sinks_most) where
   abbrev job : Job
-  job = job_taken n edges nets count terms kinds capacities first_edges edge_targets sources first_sinks sinks delays criticalities
+  job = job_taken (record { nodes = n; edges = edges; nets = nets; sinks = count; terms = terms }) kinds capacities first_edges edge_targets sources first_sinks sinks delays criticalities
 
   nodes_are : length (take n kinds) ≡ n
   nodes_are = length-take-le n kinds (omega (arith, room.kinds-long, within.nodes_most_lem))
@@ -251,28 +256,25 @@ module _
           rw (not_short, nodes_are, fits, edges_are, nets_are, count-is, ← one, ← two, ← three, ← four, ← five, ← six, ← seventh, ← ninth, ← tenth)
 
 -- all lines are read, and what the tables have is that job; or a line was refused
-pub job_read_lem :
-    (text : List ℕ) (x : JobLines) (n edges nets count : ℕ) (terms : Terms) (line : ℕ)
-    (kinds capacities first_edges edge_targets sources first_sinks sinks delays criticalities : List ℕ) (t : Tables) (r : ReadReply)
-    → x ≡ jl.Counts n edges nets count terms line → job_at x kinds capacities first_edges edge_targets sources first_sinks sinks delays criticalities ≡ read_text text
-    → r ≡ stored_reply (job_taken n edges nets count terms kinds capacities first_edges edge_targets sources first_sinks sinks delays criticalities) t → r ≡ read_reply text t
-unfolding read_reply
-job_read_lem text x n edges nets count terms line kinds capacities first_edges edge_targets sources first_sinks sinks delays criticalities t r is read stored =
-    stored
-    ∙ ap (λ (p : Part Job). reply_to p t) (ap (λ (y : JobLines). job_at y kinds capacities first_edges edge_targets sources first_sinks sinks delays criticalities) (sym is) ∙ read)
+module _
+    (text : List ℕ) (x : Result JobCounts LineRefusal) (end : ℕ) (kinds capacities first_edges edge_targets sources first_sinks sinks delays criticalities : List ℕ)
+    (read : job_at end x kinds capacities first_edges edge_targets sources first_sinks sinks delays criticalities ≡ read_text text) (t : Tables) where
+  pub job_read_lem :
+      {c : JobCounts} (r : ReadReply) → x ≡ Ok c
+      → r ≡ stored_reply (job_taken c kinds capacities first_edges edge_targets sources first_sinks sinks delays criticalities) t → r ≡ read_reply text t
+  unfolding read_reply
+  job_read_lem r is stored = stored ∙ rw (← read, is)
 
-pub job-stopped :
-    (text : List ℕ) (x : JobLines) (k line : ℕ) (kinds capacities first_edges edge_targets sources first_sinks sinks delays criticalities : List ℕ) (t : Tables)
-    → x ≡ jl.Stopped k line → job_at x kinds capacities first_edges edge_targets sources first_sinks sinks delays criticalities ≡ read_text text
-    → not_read (k ∷ line ∷ []) t ≡ read_reply text t
-unfolding read_reply
-job-stopped text x k line kinds capacities first_edges edge_targets sources first_sinks sinks delays criticalities t is read =
-    ap (λ (p : Part Job). reply_to p t) (ap (λ (y : JobLines). job_at y kinds capacities first_edges edge_targets sources first_sinks sinks delays criticalities) (sym is) ∙ read)
+  -- the numbers of a faulty line
+  line_numbers : (k : LineFault) (line : ℕ) → refusal_numbers (at_line k line) ≡ row k ∷ line ∷ []
+  line_numbers Malformed line = refl
+  line_numbers BeyondBounds line = refl
+  line_numbers WrongOrder line = refl
 
--- the row of a line by its number
-pub row_is : {k row : ℕ} (line : ℕ) (t : Tables) → k ≡ row → not_read (row ∷ line ∷ []) t ≡ not_read (k ∷ line ∷ []) t
-row_is line t e = rw e
+  pub job-stopped : {e : LineRefusal} → x ≡ Err e → not_read (refusal_numbers (line_refusal e)) t ≡ read_reply text t
+  unfolding read_reply
+  job-stopped {e} is = rw (← read, is, line_numbers e.fault e.line)
 
 -- the counts of a job that was read
-pub job-counts : (x : JobLines) (n edges nets count : ℕ) (terms : Terms) (line : ℕ) → x ≡ jl.Counts n edges nets count terms line → JobPlace x → CountsWithin n edges nets × (count ≤ sinks_most)
-job-counts x n edges nets count terms line is place = rw is at place
+pub job-counts : {x : Result JobCounts LineRefusal} {c : JobCounts} → x ≡ Ok c → JobPlace x → CountsWithin c.nodes c.edges c.nets × (c.sinks ≤ sinks_most)
+job-counts is place = rw is at place

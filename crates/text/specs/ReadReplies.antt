@@ -1,14 +1,15 @@
 -- Document 01, "Job text" and rows 1 to 4 of "Numbers for a stopped call", with 15 of request 2.9: what the reader answers and leaves in
 -- the tables.
 -- Assumes nothing.
-use Rattle.std.specs.Prelude.{List, [], ◌∷◌, ◌++◌, ℕ, ◌+◌, leb, ltb, length, drop}
+use Rattle.std.specs.Prelude.{Result, Ok, Err, List, [], ◌∷◌, ◌++◌, ℕ, ◌+◌, leb, ltb, length, drop}
 use Rattle.price.specs.Test.{choose}
 use Rattle.job.specs.Job.{Job, nodes, nets}
 use Rattle.job.specs.Tables.{exceeds}
 use Rattle.job.specs.declared.Terms.{Terms}
 use Rattle.text.specs.JobText.{Part, part, stopped, read_text}
-use Rattle.text.specs.declared.ReadAnswer.{ReadAnswer}
-use Rattle.text.specs.declared.ReadAnswer.TheVariants as a
+use Rattle.text.specs.declared.JobCounts.{JobCounts}
+use Rattle.text.specs.declared.ReadRefusal.{ReadRefusal}
+use Rattle.text.specs.declared.ReadRefusal.TheVariants.{Malformed, BeyondBounds, WrongOrder, ShortTable, TooLarge}
 
 -- the nine tables that the reader is lent
 pub record Tables : Type 0 where
@@ -114,23 +115,15 @@ reply_to (part j at rest) t = stored_reply j t
 unfoldable pub read_reply : List ℕ → Tables → ReadReply
 read_reply text t = reply_to (read_text text) t
 
--- 01's numbers for each case of the answer
-abbrev pub read_refusal : ReadAnswer → List ℕ
-read_refusal (a.Job nodes edges nets sinks terms) = []
-read_refusal (a.Malformed at) = 1 ∷ at ∷ []
-read_refusal (a.BeyondBounds at) = 2 ∷ at ∷ []
-read_refusal (a.WrongOrder at) = 3 ∷ at ∷ []
-read_refusal (a.ShortTable table) = 4 ∷ table ∷ []
-read_refusal (a.TooLarge count limit) = 15 ∷ count ∷ limit ∷ []
-
-abbrev pub read_numbers : ReadAnswer → List ℕ
-read_numbers (a.Job nodes edges nets sinks terms) = nodes ∷ edges ∷ nets ∷ sinks ∷ terms_numbers terms
-read_numbers (a.Malformed at) = []
-read_numbers (a.BeyondBounds at) = []
-read_numbers (a.WrongOrder at) = []
-read_numbers (a.ShortTable table) = []
-read_numbers (a.TooLarge count limit) = []
+-- 01's numbers for each refusal
+abbrev pub refusal_numbers : ReadRefusal → List ℕ
+refusal_numbers (Malformed at) = 1 ∷ at ∷ []
+refusal_numbers (BeyondBounds at) = 2 ∷ at ∷ []
+refusal_numbers (WrongOrder at) = 3 ∷ at ∷ []
+refusal_numbers (ShortTable table) = 4 ∷ table ∷ []
+refusal_numbers (TooLarge count limit) = 15 ∷ count ∷ limit ∷ []
 
 -- the answer with the tables at the call's end
-abbrev pub read_reply_of : ReadAnswer → Tables → ReadReply
-read_reply_of r t = record { refusal = read_refusal r; numbers = read_numbers r; tables = t }
+abbrev pub read_reply_of : Result JobCounts ReadRefusal → Tables → ReadReply
+read_reply_of (Ok c) t = record { refusal = []; numbers = c.nodes ∷ c.edges ∷ c.nets ∷ c.sinks ∷ terms_numbers c.terms; tables = t }
+read_reply_of (Err r) t = not_read (refusal_numbers r) t

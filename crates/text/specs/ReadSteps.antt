@@ -1,6 +1,6 @@
 -- What the contracts of the reader's private functions say about whole tables.
 -- Assumes nothing.
-use Rattle.std.specs.Prelude.{Bool, List, [], ◌∷◌, ◌++◌, ◌≡◌, ℕ, ◌+◌, ◌≤◌, leb, length, take, drop}
+use Rattle.std.specs.Prelude.{Bool, Result, Ok, Err, List, [], ◌∷◌, ◌++◌, ◌≡◌, ℕ, ◌+◌, ◌≤◌, leb, length, take, drop}
 use Rattle.price.specs.Test.{choose}
 use Rattle.price.specs.Bounds.{nodes_most}
 use Rattle.search.specs.Tables.{edges_most}
@@ -11,13 +11,14 @@ use Rattle.job.specs.declared.Terms.{Terms}
 use Rattle.text.specs.JobText.{Part, part, stopped, Counts, NodeLists, node_lists, node_lines}
 use Rattle.text.specs.JobText.{edge_lists, edge_lines, NetLists, net_lists, net_lines}
 use Rattle.text.specs.ReadReplies.{Tables, tables_of}
-use Rattle.text.specs.Steps.{EdgeTables, edge_tables}
+use Rattle.text.specs.Steps.{EdgeTables, edge_tables, row, Within}
+use Rattle.text.specs.declared.JobCounts.{JobCounts}
+use Rattle.text.specs.declared.ReadRefusal.{ReadRefusal}
+use Rattle.text.specs.declared.ReadRefusal.TheVariants as rr
 use Rattle.text.specs.declared.head.HeadRead.{HeadRead}
-use Rattle.text.specs.declared.head.HeadRead.TheVariants as hr
-use Rattle.text.specs.declared.nets.NetsRead.{NetsRead}
-use Rattle.text.specs.declared.nets.NetsRead.TheVariants as nr
-use Rattle.text.specs.declared.reader.JobLines.{JobLines}
-use Rattle.text.specs.declared.reader.JobLines.TheVariants as jl
+use Rattle.text.specs.declared.place.LineRefusal.{LineRefusal}
+use Rattle.text.specs.declared.place.LineFault.{LineFault}
+use Rattle.text.specs.declared.place.LineFault.TheVariants as lf
 
 -- row 4 of tables 1 to 7 before that of 9 and 10
 abbrev pub lowest_of_nine : ℕ → ℕ → ℕ
@@ -47,14 +48,16 @@ pub record CountsWithin (n edges nets : ℕ) : Type 0 where
   pub nets_most_lem : nets ≤ nets_most
 
 -- the lines before the nodes, as their values
-abbrev pub head_read_at : List ℕ → HeadRead → Part Counts
-head_read_at text (hr.Counts n edges nets terms at line) =
-    part (record { nodes = n; edges = edges; nets = nets; terms = terms }) line (drop at text)
-head_read_at text (hr.Stopped k line) = stopped k line
+abbrev pub head_read_at : List ℕ → Result HeadRead LineRefusal → Part Counts
+head_read_at text (Ok h) =
+    part
+    (record { nodes = h.counts.nodes; edges = h.counts.edges; nets = h.counts.nets; terms = h.counts.terms })
+    h.place.line (drop h.place.at text)
+head_read_at text (Err r) = stopped (row r.fault) r.line
 
-abbrev pub HeadReadPlace : List ℕ → HeadRead → Type 0
-HeadReadPlace text (hr.Counts n edges nets terms at line) = CountsWithin n edges nets × (at ≤ length text) × (line ≤ at + 1)
-HeadReadPlace text (hr.Stopped k line) = Unit {0}
+abbrev pub HeadReadPlace : List ℕ → Result HeadRead LineRefusal → Type 0
+HeadReadPlace text (Ok h) = CountsWithin h.counts.nodes h.counts.edges h.counts.nets × Within text h.place
+HeadReadPlace text (Err r) = Unit {0}
 
 -- tables 3 to 7 and 10
 pub record WireTables : Type 0 where
@@ -95,13 +98,13 @@ body_after_nodes timed kinds n edges nets at bs =
     nets_after timed kinds n nets (edge_tables n (edge_lines n edges (edge_lists [] []) at bs))
 
 abbrev pub edges_nets_at :
-    (n edges nets : ℕ) → NetsRead → (first_edges edge_targets sources first_sinks sinks criticalities : List ℕ) → Part WireTables
-edges_nets_at n edges nets (nr.Read count line) first_edges edge_targets sources first_sinks sinks criticalities =
+    (n edges nets end : ℕ) → Result ℕ LineRefusal → (first_edges edge_targets sources first_sinks sinks criticalities : List ℕ) → Part WireTables
+edges_nets_at n edges nets end (Ok count) first_edges edge_targets sources first_sinks sinks criticalities =
     part
     (wire_tables (take (n + 1) first_edges) (take edges edge_targets) (take nets sources) (take (nets + 1) first_sinks)
     (take count sinks) (take count criticalities))
-    line []
-edges_nets_at n edges nets (nr.Stopped k line) first_edges edge_targets sources first_sinks sinks criticalities = stopped k line
+    end []
+edges_nets_at n edges nets end (Err r) first_edges edge_targets sources first_sinks sinks criticalities = stopped (row r.fault) r.line
 
 -- edges and nets after the nodes
 abbrev pub with_wires : NodeLists → Part WireTables → Part Tables
@@ -121,45 +124,44 @@ unfoldable pub body_after_head : Bool → ℕ → ℕ → ℕ → ℕ → List �
 body_after_head timed n edges nets at bs = wires_after timed n edges nets (node_lines timed n n (node_lists [] [] []) at bs)
 
 abbrev pub body_at :
-    (n edges nets : ℕ) → NetsRead
+    (n edges nets end : ℕ) → Result ℕ LineRefusal
     → (kinds capacities first_edges edge_targets sources first_sinks sinks delays criticalities : List ℕ) → Part Tables
-body_at n edges nets (nr.Read count line) kinds capacities first_edges edge_targets sources first_sinks sinks delays criticalities =
+body_at n edges nets end (Ok count) kinds capacities first_edges edge_targets sources first_sinks sinks delays criticalities =
     part
     (tables_of (take n kinds) (take n capacities) (take (n + 1) first_edges) (take edges edge_targets)
     (take nets sources) (take (nets + 1) first_sinks) (take count sinks) (take n delays) (take count criticalities))
-    line []
-body_at n edges nets (nr.Stopped k line) kinds capacities first_edges edge_targets sources first_sinks sinks delays criticalities =
-    stopped k line
+    end []
+body_at n edges nets end (Err r) kinds capacities first_edges edge_targets sources first_sinks sinks delays criticalities =
+    stopped (row r.fault) r.line
 
 -- the job that stands in tables that have room for any
 abbrev pub job_taken :
-    (n edges nets count : ℕ) → Terms
-    → (kinds capacities first_edges edge_targets sources first_sinks sinks delays criticalities : List ℕ) → Job
-job_taken n edges nets count terms kinds capacities first_edges edge_targets sources first_sinks sinks delays criticalities =
-    job_of (take n kinds) (take n capacities) (take (n + 1) first_edges) (take edges edge_targets)
-    (take nets sources) (take (nets + 1) first_sinks) (take count sinks) (take n delays) (take count criticalities) terms
+    JobCounts → (kinds capacities first_edges edge_targets sources first_sinks sinks delays criticalities : List ℕ) → Job
+job_taken c kinds capacities first_edges edge_targets sources first_sinks sinks delays criticalities =
+    job_of (take c.nodes kinds) (take c.nodes capacities) (take (c.nodes + 1) first_edges) (take c.edges edge_targets)
+    (take c.nets sources) (take (c.nets + 1) first_sinks) (take c.sinks sinks) (take c.nodes delays) (take c.sinks criticalities) c.terms
 
--- the first line's counts and what the lines after it gave, as one answer
-abbrev pub job_lines : ℕ → ℕ → ℕ → Terms → NetsRead → JobLines
-job_lines n edges nets terms (nr.Read count line) = jl.Counts n edges nets count terms line
-job_lines n edges nets terms (nr.Stopped k line) = jl.Stopped k line
-
--- the whole text
+-- the whole text, whose last line comes before this one
 abbrev pub job_at :
-    JobLines → (kinds capacities first_edges edge_targets sources first_sinks sinks delays criticalities : List ℕ) → Part Job
-job_at (jl.Counts n edges nets count terms line) kinds capacities first_edges edge_targets sources first_sinks sinks delays criticalities =
-    part
-    (job_taken n edges nets count terms kinds capacities first_edges edge_targets sources first_sinks sinks delays criticalities)
-    line []
-job_at (jl.Stopped k line) kinds capacities first_edges edge_targets sources first_sinks sinks delays criticalities = stopped k line
+    (end : ℕ) → Result JobCounts LineRefusal
+    → (kinds capacities first_edges edge_targets sources first_sinks sinks delays criticalities : List ℕ) → Part Job
+job_at end (Ok c) kinds capacities first_edges edge_targets sources first_sinks sinks delays criticalities =
+    part (job_taken c kinds capacities first_edges edge_targets sources first_sinks sinks delays criticalities) end []
+job_at end (Err r) kinds capacities first_edges edge_targets sources first_sinks sinks delays criticalities =
+    stopped (row r.fault) r.line
 
-abbrev pub JobPlace : JobLines → Type 0
-JobPlace (jl.Counts n edges nets count terms line) = CountsWithin n edges nets × (count ≤ sinks_most)
-JobPlace (jl.Stopped k line) = Unit {0}
+abbrev pub JobPlace : Result JobCounts LineRefusal → Type 0
+JobPlace (Ok c) = CountsWithin c.nodes c.edges c.nets × (c.sinks ≤ sinks_most)
+JobPlace (Err r) = Unit {0}
 
--- rows 1 to 3, those of a line
-abbrev pub LineRow : ℕ → Type 0
-LineRow k = (1 ≤ k) × (k ≤ 3)
+-- what the reader answers at a faulty line
+abbrev pub at_line : LineFault → ℕ → ReadRefusal
+at_line lf.Malformed line = rr.Malformed line
+at_line lf.BeyondBounds line = rr.BeyondBounds line
+at_line lf.WrongOrder line = rr.WrongOrder line
+
+abbrev pub line_refusal : LineRefusal → ReadRefusal
+line_refusal r = at_line r.fault r.line
 
 -- both lists have this many entries
 pub record Fits (count : ℕ) (from to : List ℕ) : Type 0 where

@@ -1,45 +1,34 @@
 -- What the private functions' contracts say: how their answers stand for the definitions of the job text, at places of the text.
 -- Assumes nothing.
-use Rattle.std.specs.Prelude.{Bool, true, false, List, [], ◌∷◌, ◌≡◌, ℕ, ◌+◌, ◌-◌, ◌≤◌, ◌<◌, eqb, length, get_or, take, drop, set}
+use Rattle.std.specs.Prelude.{Bool, true, false, Option, Some, None, Result, Ok, Err, List, [], ◌∷◌, ◌≡◌, ℕ, ◌+◌, ◌-◌, ◌≤◌, ◌<◌, eqb, length, get_or, take, drop, set}
 use Rattle.price.specs.Test.{choose}
 use Rattle.price.specs.Lists.{has}
 use Rattle.price.specs.Bounds.{nodes_most}
 use Rattle.search.specs.Replies.{sinks_most}
 use Rattle.job.specs.Tables.{nets_most}
 use Rattle.job.specs.declared.Terms.{Terms}
-use Rattle.text.specs.Lines.{Field, number, fault, Fields, taken, malformed, field, lf as line_feed, comma, begins, line}
+use Rattle.text.specs.Lines as lines
+use Rattle.text.specs.Lines.{number, fault, Fields, taken, malformed, field, comma, begins, line}
 use Rattle.text.specs.JobText.{Reading, values, refused, Part, part, stopped, NodeLists, node_lists, EdgeLists}
 use Rattle.text.specs.JobText.{NetLists, net_lists, last_of, sinks_now, first_places}
-use Rattle.text.specs.declared.fields.Field as field_type
-use Rattle.text.specs.declared.fields.Field.TheVariants as f
+use Rattle.text.specs.declared.fields.Field.{Field}
 use Rattle.text.specs.declared.fields.LineFields.{LineFields}
-use Rattle.text.specs.declared.fields.LineFields.TheVariants as lf
+use Rattle.text.specs.declared.place.Place.{Place}
+use Rattle.text.specs.declared.place.LineRefusal.{LineRefusal}
+use Rattle.text.specs.declared.place.LineFault.{LineFault}
+use Rattle.text.specs.declared.place.LineFault.TheVariants.{Malformed, BeyondBounds, WrongOrder}
 use Rattle.text.specs.declared.head.Head.{Head}
-use Rattle.text.specs.declared.head.Head.TheVariants as hd
-use Rattle.text.specs.declared.optional.Shape.{Shape}
-use Rattle.text.specs.declared.optional.Shape.TheVariants as sh
 use Rattle.text.specs.declared.optional.TermsRead.{TermsRead}
-use Rattle.text.specs.declared.optional.TermsRead.TheVariants as tr
-use Rattle.text.specs.declared.head.Lines.{Lines}
-use Rattle.text.specs.declared.head.Lines.TheVariants as ls
-use Rattle.text.specs.declared.nodes.NodeLine.{NodeLine}
-use Rattle.text.specs.declared.nodes.NodeLine.TheVariants as nl
-use Rattle.text.specs.declared.edges.EdgeLine.{EdgeLine}
-use Rattle.text.specs.declared.edges.EdgeLine.TheVariants as el
-use Rattle.text.specs.declared.nets.PinLine.{PinLine}
-use Rattle.text.specs.declared.nets.PinLine.TheVariants as pl
-use Rattle.text.specs.declared.nets.SinkLine.{SinkLine}
-use Rattle.text.specs.declared.nets.SinkLine.TheVariants as sl
+use Rattle.text.specs.declared.nodes.Node.{Node}
+use Rattle.text.specs.declared.edges.Edge.{Edge}
+use Rattle.text.specs.declared.nets.Pin.{Pin}
+use Rattle.text.specs.declared.nets.Sink.{Sink}
 use Rattle.text.specs.declared.nets.NetCursor.{NetCursor}
-use Rattle.text.specs.declared.nets.NetStep.{NetStep}
-use Rattle.text.specs.declared.nets.NetStep.TheVariants as ns
-use Rattle.text.specs.declared.nets.NetsRead.{NetsRead}
-use Rattle.text.specs.declared.nets.NetsRead.TheVariants as nr
 
 -- ---- fields
 
 -- a field after a comma
-unfoldable pub comma_field : List ℕ → Field
+unfoldable pub comma_field : List ℕ → lines.Field
 comma_field [] = fault
 comma_field (b ∷ bs) = choose (eqb b comma) (field bs) fault
 
@@ -47,79 +36,65 @@ comma_field (b ∷ bs) = choose (eqb b comma) (field bs) fault
 abbrev pub After : ℕ → List ℕ → ℕ → Type 0
 After at text next = (at ≤ next) × (next ≤ length text)
 
-abbrev pub field_at : List ℕ → field_type.Field → Field
-field_at text (f.Number value next) = number value (drop next text)
-field_at text f.Fault = fault
+abbrev pub field_at : List ℕ → Option Field → lines.Field
+field_at text (Some f) = number f.value (drop f.next text)
+field_at text None = fault
 
-abbrev pub FieldPlace : ℕ → List ℕ → field_type.Field → Type 0
-FieldPlace at text (f.Number value next) = After at text next
-FieldPlace at text f.Fault = Unit {0}
-
--- the place after a field; after a fault the place stays
-abbrev pub place_after : field_type.Field → ℕ → ℕ
-place_after (f.Number value next) at = next
-place_after f.Fault at = at
-
--- a line's fields as they are read: none, one more, and the LF after the last
-abbrev pub no_fields : LineFields
-no_fields = lf.Fields 0 0 0 0 0
-
-abbrev pub with_field : LineFields → ℕ → field_type.Field → LineFields
-with_field (lf.Fields first second third fourth before) k (f.Number v next) =
-    lf.Fields (choose (eqb k 0) v first) (choose (eqb k 1) v second) (choose (eqb k 2) v third) (choose (eqb k 3) v fourth) next
-with_field (lf.Fields first second third fourth before) k f.Fault = lf.Fault
-with_field lf.Fault k read = lf.Fault
-
-abbrev pub line_end : List ℕ → ℕ → LineFields → LineFields
-line_end text at (lf.Fields first second third fourth before) =
-    choose (begins line_feed (drop at text)) (lf.Fields first second third fourth (at + 1)) lf.Fault
-line_end text at lf.Fault = lf.Fault
+abbrev pub FieldPlace : ℕ → List ℕ → Option Field → Type 0
+FieldPlace at text (Some f) = After at text f.next
+FieldPlace at text None = Unit {0}
 
 -- a line's fields by their count
-abbrev pub fields_at : ℕ → List ℕ → LineFields → Fields
-fields_at count text (lf.Fields first second third fourth next) =
-    taken (take count (first ∷ second ∷ third ∷ fourth ∷ [])) (drop next text)
-fields_at count text lf.Fault = malformed
+abbrev pub fields_at : ℕ → List ℕ → Option LineFields → Fields
+fields_at count text (Some l) = taken (take count (l.first ∷ l.second ∷ l.third ∷ l.fourth ∷ [])) (drop l.next text)
+fields_at count text None = malformed
 
-abbrev pub FieldsPlace : ℕ → List ℕ → LineFields → Type 0
-FieldsPlace at text (lf.Fields first second third fourth next) = After at text next
-FieldsPlace at text lf.Fault = Unit {0}
+abbrev pub FieldsPlace : ℕ → List ℕ → Option LineFields → Type 0
+FieldsPlace at text (Some l) = After at text l.next
+FieldsPlace at text None = Unit {0}
 
 -- ---- lines
 
-abbrev pub head_at : List ℕ → Head → Reading (List ℕ)
-head_at text (hd.Counts nodes edges nets limit next) = values (nodes ∷ edges ∷ nets ∷ limit ∷ []) (drop next text)
-head_at text (hd.Refused k) = refused k
+-- 01's number of each fault
+abbrev pub row : LineFault → ℕ
+row Malformed = 1
+row BeyondBounds = 2
+row WrongOrder = 3
 
 -- a line that is read ends after a later place, so that its number stays at most one above the place
-abbrev pub HeadPlace : List ℕ → Head → Type 0
-HeadPlace text (hd.Counts nodes edges nets limit next) = After 1 text next
-HeadPlace text (hd.Refused k) = Unit {0}
+abbrev pub Within : List ℕ → Place → Type 0
+Within text p = (p.at ≤ length text) × (p.line ≤ p.at + 1)
 
--- a line that may be left out: by its letter, its shape and the values that it gives
-abbrev pub Shaped : (letter : ℕ) (read : List ℕ → Fields) (at : ℕ) (text vs : List ℕ) → Shape → Type 0
-Shaped letter read at text vs sh.LeftOut = begins letter (drop at text) ≡ false
-Shaped letter read at text vs sh.Malformed = (begins letter (drop at text) ≡ true) × (read (drop at text) ≡ malformed)
-Shaped letter read at text vs (sh.Line next) =
-    (begins letter (drop at text) ≡ true) × (read (drop at text) ≡ taken vs (drop next text)) × After (at + 1) text next
+abbrev pub head_at : List ℕ → Result Head LineFault → Reading (List ℕ)
+head_at text (Ok h) = values (h.nodes ∷ h.edges ∷ h.nets ∷ h.limit ∷ []) (drop h.next text)
+head_at text (Err k) = refused (row k)
 
--- the terms after it, as they were or changed: 1 for its shape, 2 for a value beyond its bounds
-abbrev pub terms_after : Shape → Bool → Terms → Terms → ℕ → ℕ → TermsRead
-terms_after sh.LeftOut within t changed at l = tr.Read t at l
-terms_after sh.Malformed within t changed at l = tr.Stopped 1 l
-terms_after (sh.Line next) within t changed at l = choose within (tr.Read changed next (l + 1)) (tr.Stopped 2 l)
+abbrev pub HeadPlace : List ℕ → Result Head LineFault → Type 0
+HeadPlace text (Ok h) = After 1 text h.next
+HeadPlace text (Err k) = Unit {0}
 
-abbrev pub terms_at : List ℕ → TermsRead → Part Terms
-terms_at text (tr.Read t at line) = part t line (drop at text)
-terms_at text (tr.Stopped k line) = stopped k line
+-- a line that may be left out, as it is read: it is not of this letter, it is of wrong shape, or it gives this many values
+abbrev pub Shaped :
+    (letter : ℕ) (read : List ℕ → Fields) (count : ℕ) (from : Place) (text : List ℕ) → Result (Option LineFields) LineRefusal → Type 0
+Shaped letter read count from text (Ok None) = begins letter (drop from.at text) ≡ false
+Shaped letter read count from text (Ok (Some l)) =
+    (begins letter (drop from.at text) ≡ true)
+    × (read (drop from.at text) ≡ taken (take count (l.first ∷ l.second ∷ l.third ∷ l.fourth ∷ [])) (drop l.next text))
+    × After (from.at + 1) text l.next
+Shaped letter read count from text (Err r) =
+    (r.fault ≡ Malformed) × (r.line ≡ from.line) × (begins letter (drop from.at text) ≡ true) × (read (drop from.at text) ≡ malformed)
 
-abbrev pub TermsPlace : List ℕ → TermsRead → Type 0
-TermsPlace text (tr.Read t at line) = (at ≤ length text) × (line ≤ at + 1)
-TermsPlace text (tr.Stopped k line) = Unit {0}
+abbrev pub terms_at : List ℕ → Result TermsRead LineRefusal → Part Terms
+terms_at text (Ok t) = part t.terms t.place.line (drop t.place.at text)
+terms_at text (Err r) = stopped (row r.fault) r.line
 
-abbrev pub LinesPlace : List ℕ → Lines → Type 0
-LinesPlace text (ls.Read at line) = (at ≤ length text) × (line ≤ at + 1)
-LinesPlace text (ls.Stopped k line) = Unit {0}
+abbrev pub TermsPlace : List ℕ → Result TermsRead LineRefusal → Type 0
+TermsPlace text (Ok t) = Within text t.place
+TermsPlace text (Err r) = Unit {0}
+
+abbrev pub LinesPlace : List ℕ → Result Place LineRefusal → Type 0
+LinesPlace text (Ok p) = Within text p
+LinesPlace text (Err r) = Unit {0}
 
 -- a line's values, 0 for those that it has not
 abbrev pub three_of : List ℕ → List ℕ
@@ -128,25 +103,25 @@ three_of vs = get_or vs 0 0 ∷ get_or vs 1 0 ∷ get_or vs 2 0 ∷ []
 abbrev pub four_of : List ℕ → List ℕ
 four_of vs = get_or vs 0 0 ∷ get_or vs 1 0 ∷ get_or vs 2 0 ∷ get_or vs 3 0 ∷ []
 
-abbrev pub node_at : ℕ → List ℕ → NodeLine → Reading (List ℕ)
-node_at v text (nl.Node kind capacity delay next) = values (v ∷ kind ∷ capacity ∷ delay ∷ []) (drop next text)
-node_at v text (nl.Refused k) = refused k
+abbrev pub node_at : ℕ → List ℕ → Result Node LineFault → Reading (List ℕ)
+node_at v text (Ok n) = values (v ∷ n.kind ∷ n.capacity ∷ n.delay ∷ []) (drop n.next text)
+node_at v text (Err k) = refused (row k)
 
-abbrev pub NodePlace : ℕ → List ℕ → NodeLine → Type 0
-NodePlace at text (nl.Node kind capacity delay next) = After (at + 1) text next
-NodePlace at text (nl.Refused k) = Unit {0}
+abbrev pub NodePlace : ℕ → List ℕ → Result Node LineFault → Type 0
+NodePlace at text (Ok n) = After (at + 1) text n.next
+NodePlace at text (Err k) = Unit {0}
 
-abbrev pub nodes_at : List ℕ → Lines → List ℕ → List ℕ → List ℕ → Part NodeLists
-nodes_at text (ls.Read at line) kinds capacities delays = part (node_lists kinds capacities delays) line (drop at text)
-nodes_at text (ls.Stopped k line) kinds capacities delays = stopped k line
+abbrev pub nodes_at : List ℕ → Result Place LineRefusal → List ℕ → List ℕ → List ℕ → Part NodeLists
+nodes_at text (Ok p) kinds capacities delays = part (node_lists kinds capacities delays) p.line (drop p.at text)
+nodes_at text (Err r) kinds capacities delays = stopped (row r.fault) r.line
 
-abbrev pub edge_at : List ℕ → EdgeLine → Reading (List ℕ)
-edge_at text (el.Edge from to next) = values (from ∷ to ∷ []) (drop next text)
-edge_at text (el.Refused k) = refused k
+abbrev pub edge_at : List ℕ → Result Edge LineFault → Reading (List ℕ)
+edge_at text (Ok e) = values (e.from ∷ e.to ∷ []) (drop e.next text)
+edge_at text (Err k) = refused (row k)
 
-abbrev pub EdgePlace : ℕ → ℕ → List ℕ → EdgeLine → Type 0
-EdgePlace n at text (el.Edge from to next) = After (at + 1) text next × (from < n) × (to < n)
-EdgePlace n at text (el.Refused k) = Unit {0}
+abbrev pub EdgePlace : ℕ → ℕ → List ℕ → Result Edge LineFault → Type 0
+EdgePlace n at text (Ok e) = After (at + 1) text e.next × (e.from < n) × (e.to < n)
+EdgePlace n at text (Err k) = Unit {0}
 
 -- tables 3 and 4
 pub record EdgeTables : Type 0 where
@@ -158,28 +133,28 @@ abbrev pub edge_tables : ℕ → Part EdgeLists → Part EdgeTables
 edge_tables n (part l at rest) = part (record { first_edges = first_places n l.froms; edge_targets = l.targets }) at rest
 edge_tables n (stopped k at) = stopped k at
 
-abbrev pub edges_at : List ℕ → Lines → List ℕ → List ℕ → Part EdgeTables
-edges_at text (ls.Read at line) first_edges edge_targets =
-    part (record { first_edges = first_edges; edge_targets = edge_targets }) line (drop at text)
-edges_at text (ls.Stopped k line) first_edges edge_targets = stopped k line
+abbrev pub edges_at : List ℕ → Result Place LineRefusal → List ℕ → List ℕ → Part EdgeTables
+edges_at text (Ok p) first_edges edge_targets =
+    part (record { first_edges = first_edges; edge_targets = edge_targets }) p.line (drop p.at text)
+edges_at text (Err r) first_edges edge_targets = stopped (row r.fault) r.line
 
 -- ---- nets
 
-abbrev pub pin_at : ℕ → List ℕ → PinLine → Reading (List ℕ)
-pin_at i text (pl.Pin node next) = values (i ∷ node ∷ []) (drop next text)
-pin_at i text (pl.Refused k) = refused k
+abbrev pub pin_at : ℕ → List ℕ → Result Pin LineFault → Reading (List ℕ)
+pin_at i text (Ok p) = values (i ∷ p.node ∷ []) (drop p.next text)
+pin_at i text (Err k) = refused (row k)
 
-abbrev pub PinPlace : ℕ → ℕ → List ℕ → PinLine → Type 0
-PinPlace n at text (pl.Pin node next) = After (at + 1) text next × (node < n)
-PinPlace n at text (pl.Refused k) = Unit {0}
+abbrev pub PinPlace : ℕ → ℕ → List ℕ → Result Pin LineFault → Type 0
+PinPlace n at text (Ok p) = After (at + 1) text p.next × (p.node < n)
+PinPlace n at text (Err k) = Unit {0}
 
-abbrev pub sink_at : ℕ → List ℕ → SinkLine → Reading (List ℕ)
-sink_at i text (sl.Sink node criticality next) = values (i ∷ node ∷ criticality ∷ []) (drop next text)
-sink_at i text (sl.Refused k) = refused k
+abbrev pub sink_at : ℕ → List ℕ → Result Sink LineFault → Reading (List ℕ)
+sink_at i text (Ok s) = values (i ∷ s.node ∷ s.criticality ∷ []) (drop s.next text)
+sink_at i text (Err k) = refused (row k)
 
-abbrev pub SinkPlace : ℕ → ℕ → List ℕ → SinkLine → Type 0
-SinkPlace n at text (sl.Sink node criticality next) = After (at + 1) text next × (node < n)
-SinkPlace n at text (sl.Refused k) = Unit {0}
+abbrev pub SinkPlace : ℕ → ℕ → List ℕ → Result Sink LineFault → Type 0
+SinkPlace n at text (Ok s) = After (at + 1) text s.next × (s.node < n)
+SinkPlace n at text (Err k) = Unit {0}
 
 -- the nodes that bear this stamp are the net's pins
 abbrev pub Marked : ℕ → ℕ → List ℕ → List ℕ → Type 0
@@ -216,45 +191,45 @@ pub record NetKept (n nets : ℕ) (text : List ℕ) (c : NetCursor) (sources fir
 
 -- what an S line does to the tables
 abbrev pub SourceAdded :
-    (n nets : ℕ) (text : List ℕ) (c : NetCursor) → NetStep → (sources first_sinks seen sources' first_sinks' seen' : List ℕ)
+    (n nets : ℕ) (text : List ℕ) (c : NetCursor) → Result NetCursor LineFault → (sources first_sinks seen sources' first_sinks' seen' : List ℕ)
     → Reading (List ℕ) → Type 0
-SourceAdded n nets text c (ns.On d) sources first_sinks seen sources' first_sinks' seen' r =
+SourceAdded n nets text c (Ok d) sources first_sinks seen sources' first_sinks' seen' r =
     (node : ℕ) × (r ≡ values (c.nets ∷ node ∷ []) (drop d.at text)) × (node < n) × After (c.at + 1) text d.at
     × (d.line ≡ c.line + 1) × (d.nets ≡ c.nets + 1) × (d.sinks ≡ c.sinks) × (d.first ≡ c.sinks)
     × (sources' ≡ set sources c.nets node) × (first_sinks' ≡ set first_sinks c.nets c.sinks)
     × (seen' ≡ set seen node (c.nets + 1))
-SourceAdded n nets text c (ns.Stopped k) sources first_sinks seen sources' first_sinks' seen' r = r ≡ refused k
+SourceAdded n nets text c (Err k) sources first_sinks seen sources' first_sinks' seen' r = r ≡ refused (row k)
 
 -- what a T line does to the tables
 abbrev pub SinkAdded :
-    (n nets : ℕ) (text : List ℕ) (c : NetCursor) → NetStep → (sinks criticalities seen sinks' criticalities' seen' : List ℕ)
+    (n nets : ℕ) (text : List ℕ) (c : NetCursor) → Result NetCursor LineFault → (sinks criticalities seen sinks' criticalities' seen' : List ℕ)
     → Reading (List ℕ) → Type 0
-SinkAdded n nets text c (ns.On d) sinks criticalities seen sinks' criticalities' seen' r =
+SinkAdded n nets text c (Ok d) sinks criticalities seen sinks' criticalities' seen' r =
     (node : ℕ) × (tenths : ℕ) × (r ≡ values ((c.nets - 1) ∷ node ∷ tenths ∷ []) (drop d.at text)) × (node < n)
     × After (c.at + 1) text d.at
     × (d.line ≡ c.line + 1) × (d.nets ≡ c.nets) × (d.sinks ≡ c.sinks + 1) × (d.first ≡ c.first)
     × (sinks' ≡ set sinks c.sinks node) × (criticalities' ≡ set criticalities c.sinks tenths)
     × (seen' ≡ set seen node c.nets)
-SinkAdded n nets text c (ns.Stopped k) sinks criticalities seen sinks' criticalities' seen' r = r ≡ refused k
+SinkAdded n nets text c (Err k) sinks criticalities seen sinks' criticalities' seen' r = r ≡ refused (row k)
 
 -- a line of the nets, as the tables stand after it
-abbrev pub net_line_at : List ℕ → NetStep → List ℕ → List ℕ → List ℕ → List ℕ → Reading NetLists
-net_line_at text (ns.On d) sources first_sinks sinks criticalities =
+abbrev pub net_line_at : List ℕ → Result NetCursor LineFault → List ℕ → List ℕ → List ℕ → List ℕ → Reading NetLists
+net_line_at text (Ok d) sources first_sinks sinks criticalities =
     values (nets_at d sources first_sinks sinks criticalities) (drop d.at text)
-net_line_at text (ns.Stopped k) sources first_sinks sinks criticalities = refused k
+net_line_at text (Err k) sources first_sinks sinks criticalities = refused (row k)
 
 abbrev pub KeptAfter :
-    (n nets : ℕ) (text : List ℕ) (c : NetCursor) → NetStep → (sources first_sinks sinks criticalities seen : List ℕ) → Type 0
-KeptAfter n nets text c (ns.On d) sources first_sinks sinks criticalities seen =
+    (n nets : ℕ) (text : List ℕ) (c : NetCursor) → Result NetCursor LineFault → (sources first_sinks sinks criticalities seen : List ℕ) → Type 0
+KeptAfter n nets text c (Ok d) sources first_sinks sinks criticalities seen =
     (c.at < d.at) × (d.line ≡ c.line + 1) × NetKept n nets text d sources first_sinks sinks criticalities seen
-KeptAfter n nets text c (ns.Stopped k) sources first_sinks sinks criticalities seen = Unit {0}
+KeptAfter n nets text c (Err k) sources first_sinks sinks criticalities seen = Unit {0}
 
 -- all nets, as the tables stand at the end: the entry after the last net's in table 6 is the sink count
-abbrev pub nets_read_at : ℕ → NetsRead → List ℕ → List ℕ → List ℕ → List ℕ → Part NetLists
-nets_read_at nets (nr.Read count line) sources first_sinks sinks criticalities =
-    part (net_lists (take nets sources) (take nets first_sinks) (take count sinks) (take count criticalities)) line []
-nets_read_at nets (nr.Stopped k line) sources first_sinks sinks criticalities = stopped k line
+abbrev pub nets_read_at : ℕ → ℕ → Result ℕ LineRefusal → List ℕ → List ℕ → List ℕ → List ℕ → Part NetLists
+nets_read_at nets end (Ok count) sources first_sinks sinks criticalities =
+    part (net_lists (take nets sources) (take nets first_sinks) (take count sinks) (take count criticalities)) end []
+nets_read_at nets end (Err r) sources first_sinks sinks criticalities = stopped (row r.fault) r.line
 
-abbrev pub NetsEnd : ℕ → NetsRead → List ℕ → Type 0
-NetsEnd nets (nr.Read count line) first_sinks = (count ≤ sinks_most) × (get_or first_sinks nets 0 ≡ count)
-NetsEnd nets (nr.Stopped k line) first_sinks = Unit {0}
+abbrev pub NetsEnd : ℕ → Result ℕ LineRefusal → List ℕ → Type 0
+NetsEnd nets (Ok count) first_sinks = (count ≤ sinks_most) × (get_or first_sinks nets 0 ≡ count)
+NetsEnd nets (Err r) first_sinks = Unit {0}

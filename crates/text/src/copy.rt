@@ -1,40 +1,6 @@
 // Copying the tables of a job that was read over those that were lent.
-ghost use Rattle.std.specs.Prelude.{◌++◌, ◌≡◌, ◌+◌, ◌≤◌, length, take, drop};
+ghost use Rattle.std.specs.Prelude.{◌+◌};
 ghost use Rattle.text.specs.ReadSteps.{Fits, Over};
-
-// Copies the first entries of a table.
-pub fn copy_bytes(from: &[u8], count: usize, to: &mut [u8])
-    requires { (count ≤ length from.now) × (count ≤ length to.old) }
-    ensures { to.new ≡ take count from.now ++ drop count to.old }
-{
-    let mut k = 0;
-    while k < count {
-        to[k] = from[k];
-        k += 1;
-    }
-}
-
-pub fn copy_halves(from: &[u16], count: usize, to: &mut [u16])
-    requires { (count ≤ length from.now) × (count ≤ length to.old) }
-    ensures { to.new ≡ take count from.now ++ drop count to.old }
-{
-    let mut k = 0;
-    while k < count {
-        to[k] = from[k];
-        k += 1;
-    }
-}
-
-pub fn copy_words(from: &[u32], count: usize, to: &mut [u32])
-    requires { (count ≤ length from.now) × (count ≤ length to.old) }
-    ensures { to.new ≡ take count from.now ++ drop count to.old }
-{
-    let mut k = 0;
-    while k < count {
-        to[k] = from[k];
-        k += 1;
-    }
-}
 
 // Copies tables 1 to 4.
 pub fn copy_block(
@@ -56,10 +22,10 @@ pub fn copy_block(
         × Over (nodes + 1) first_edges.now first_edge.old first_edge.new
         × Over edges edge_targets.now edge_target.old edge_target.new }
 {
-    copy_bytes(kinds, nodes, kind);
-    copy_bytes(capacities, nodes, capacity);
-    copy_words(first_edges, nodes + 1, first_edge);
-    copy_halves(edge_targets, edges, edge_target);
+    kind[..nodes].copy_from_slice(&kinds[..nodes]);
+    capacity[..nodes].copy_from_slice(&capacities[..nodes]);
+    first_edge[..nodes + 1].copy_from_slice(&first_edges[..nodes + 1]);
+    edge_target[..edges].copy_from_slice(&edge_targets[..edges]);
 }
 
 // Copies tables 5 to 7.
@@ -79,9 +45,9 @@ pub fn copy_nets(
         × Over (nets + 1) first_sinks.now first_sink.old first_sink.new
         × Over count sinks.now sink.old sink.new }
 {
-    copy_halves(sources, nets, source);
-    copy_words(first_sinks, nets + 1, first_sink);
-    copy_halves(sinks, count, sink);
+    source[..nets].copy_from_slice(&sources[..nets]);
+    first_sink[..nets + 1].copy_from_slice(&first_sinks[..nets + 1]);
+    sink[..count].copy_from_slice(&sinks[..count]);
 }
 
 // Copies tables 9 and 10.
@@ -97,6 +63,6 @@ pub fn copy_times(
     ensures { Over nodes delays.now delay.old delay.new
         × Over count criticalities.now criticality.old criticality.new }
 {
-    copy_halves(delays, nodes, delay);
-    copy_bytes(criticalities, count, criticality);
+    delay[..nodes].copy_from_slice(&delays[..nodes]);
+    criticality[..count].copy_from_slice(&criticalities[..count]);
 }

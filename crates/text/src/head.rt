@@ -1,50 +1,38 @@
-// The lines of a job text before its nodes, and what a run of lines answers.
+// The lines of a job text before its nodes.
 ghost use Rattle.std.specs.Prelude.{◌≡◌, [], ◌∷◌};
 ghost use Rattle.text.specs.JobText.{head_within, head_line, head_part};
 ghost use Rattle.text.specs.Steps.{head_at, HeadPlace};
 ghost use Rattle.text.specs.ReadSteps.{head_read_at, HeadReadPlace};
 
 use crate::fields::LineFields;
-use crate::optional::TermsRead;
+use crate::place::{LineFault, LineRefusal, Place};
 use crate::{bounds, fields, optional};
 use job::Terms;
 
-// The place and number of the line after those that were read, or the refusal's number and its line.
+// The numbers of the F line and the place after it.
 #[derive(Clone, Copy)]
-pub enum Lines {
-    Read { at: usize, line: usize },
-    Stopped { number: u32, line: usize },
+pub struct Head {
+    pub nodes: u32,
+    pub edges: u32,
+    pub nets: u32,
+    pub limit: u32,
+    pub next: usize,
 }
 
-// The numbers of the F line and the place after it, or the refusal's number.
+// The counts and the terms of the lines before the nodes.
 #[derive(Clone, Copy)]
-pub enum Head {
-    Counts {
-        nodes: u32,
-        edges: u32,
-        nets: u32,
-        limit: u32,
-        next: usize,
-    },
-    Refused(u32),
+pub struct Counts {
+    pub nodes: usize,
+    pub edges: usize,
+    pub nets: usize,
+    pub terms: Terms,
 }
 
-// The counts and the terms of the lines before the nodes, with the place and number of the line after these;
-// or the refusal's number and its line.
+// These, with the place where the nodes begin.
 #[derive(Clone, Copy)]
-pub enum HeadRead {
-    Counts {
-        nodes: usize,
-        edges: usize,
-        nets: usize,
-        terms: Terms,
-        at: usize,
-        line: usize,
-    },
-    Stopped {
-        number: u32,
-        line: usize,
-    },
+pub struct HeadRead {
+    pub counts: Counts,
+    pub place: Place,
 }
 
 // The counts and the limit are within their bounds.
@@ -73,61 +61,56 @@ fn head_within(nodes: u32, edges: u32, nets: u32, limit: u32) -> bool
 }
 
 // The F line, which stands at the beginning of the text.
-fn head_line(text: &[u8]) -> Head
+fn head_line(text: &[u8]) -> Result<Head, LineFault>
     ensures value { head_at text.now result ≡ head_line text.now }
     ensures head_place { HeadPlace text.now result }
 {
-    let LineFields::Fields {
-        first,
-        second,
-        third,
-        fourth,
-        next,
-    } = fields::line_fields(text, 0, b'F', 4)
+    let Some(
+        LineFields {
+            first: nodes,
+            second: edges,
+            third: nets,
+            fourth: limit,
+            next,
+        },
+    ) = fields::line_fields(text, 0, b'F', 4)
     else {
-        return Head::Refused(1);
+        return Err(LineFault::Malformed);
     };
-    if !head_within(first, second, third, fourth) {
-        return Head::Refused(2);
+    if !head_within(nodes, edges, nets, limit) {
+        return Err(LineFault::BeyondBounds);
     }
-    Head::Counts {
-        nodes: first,
-        edges: second,
-        nets: third,
-        limit: fourth,
-        next: next,
-    }
+    Ok(Head {
+        nodes,
+        edges,
+        nets,
+        limit,
+        next,
+    })
 }
 
 // The F line, and those that may follow it.
-pub fn read_head(text: &[u8]) -> HeadRead
+pub fn read_head(text: &[u8]) -> Result<HeadRead, LineRefusal>
     ensures value { head_read_at text.now result ≡ head_part text.now }
     ensures head_read_place { HeadReadPlace text.now result }
 {
-    match head_line(text) {
-        Head::Counts {
-            nodes,
-            edges,
-            nets,
-            limit,
-            next,
-        } => match optional::read_terms(text, next, 2, limit) {
-            TermsRead::Read { terms, at, line } => HeadRead::Counts {
-                nodes: nodes as usize,
-                edges: edges as usize,
-                nets: nets as usize,
-                terms: terms,
-                at: at,
-                line: line,
-            },
-            TermsRead::Stopped { number, line } => HeadRead::Stopped {
-                number: number,
-                line: line,
-            },
-        },
-        Head::Refused(number) => HeadRead::Stopped {
-            number: number,
-            line: 1,
-        },
-    }
+    let head = match head_line(text) {
+        Ok(head) => head,
+        Err(fault) => return Err(LineRefusal { fault, line: 1 }),
+    };
+    let after = Place {
+        at: head.next,
+        line: 2,
+    };
+    let read = optional::read_terms(text, after, head.limit)?;
+    let counts = Counts {
+        nodes: head.nodes as usize,
+        edges: head.edges as usize,
+        nets: head.nets as usize,
+        terms: read.terms,
+    };
+    Ok(HeadRead {
+        counts,
+        place: read.place,
+    })
 }

@@ -5,25 +5,27 @@ ghost use Rattle.std.specs.Prelude.{[], ◌∷◌, ◌≡◌, ◌≤◌, length}
 ghost use Rattle.search.specs.Replies.{sinks_most};
 ghost use Rattle.price.specs.Bounds.{nodes_most};
 ghost use Rattle.price.specs.Test.{choose};
-ghost use Rattle.text.specs.ReadReplies.{Tables, tables_of, lowest_short, short_times, not_read, stored_reply, read_reply, read_reply_of};
-ghost use Rattle.text.specs.ReadSteps.{lowest_of_nine, RoomForAll, CountsWithin, job_taken, LineRow};
+ghost use Rattle.text.specs.ReadReplies.{tables_of, lowest_short, short_times, stored_reply, read_reply, read_reply_of};
+ghost use Rattle.text.specs.ReadSteps.{lowest_of_nine, RoomForAll, CountsWithin, job_taken, line_refusal};
 ghost use Rattle.text.specs.Routes.{text_reply, write_reply, write_reply_of};
 ghost use Rattle.text.specs.Dot.{text_in, dot_reply, style_reply};
 ghost use Rattle.text.specs.WriteSteps.{Filled, LogTested, LatestPlaces};
 ghost use Rattle.negotiation.specs.Records.{decode};
 ghost use Rattle.job.specs.Tables.{nets_most};
 
-// What the reader answers.
+// The counts of a job that was read, which the tables now hold, and its terms.
 #[derive(Clone, Copy)]
-pub enum ReadAnswer {
-    // The counts of the job, which the tables now hold, and its terms.
-    Job {
-        nodes: usize,
-        edges: usize,
-        nets: usize,
-        sinks: usize,
-        terms: Terms,
-    },
+pub struct JobCounts {
+    pub nodes: usize,
+    pub edges: usize,
+    pub nets: usize,
+    pub sinks: usize,
+    pub terms: Terms,
+}
+
+// Why the reader refuses a text.
+#[derive(Clone, Copy, Debug, PartialEq, Eq)]
+pub enum ReadRefusal {
     // 1: this line is of wrong shape or missing.
     Malformed(usize),
     // 2: this line has a value beyond its bounds.
@@ -33,10 +35,20 @@ pub enum ReadAnswer {
     // 4: this table is too short for the job.
     ShortTable(u32),
     // 15: a timed job has more nodes, or a larger limit, than it may.
-    TooLarge {
-        nodes: usize,
-        limit: u32,
-    },
+    TooLarge { nodes: usize, limit: u32 },
+}
+
+impl From<LineRefusal> for ReadRefusal {
+    ghost from_gives = { λ a b. b ≡ line_refusal a };
+
+    fn from(refusal: LineRefusal) -> ReadRefusal {
+        let line = refusal.line;
+        match refusal.fault {
+            LineFault::Malformed => ReadRefusal::Malformed(line),
+            LineFault::BeyondBounds => ReadRefusal::BeyondBounds(line),
+            LineFault::WrongOrder => ReadRefusal::WrongOrder(line),
+        }
+    }
 }
 
 // The two texts of a log: the lines of its routes, or their picture.
@@ -103,6 +115,7 @@ mod nets;
 mod nodes;
 mod optional;
 mod parts;
+mod place;
 mod printing;
 mod reader;
 mod rule;
@@ -114,8 +127,8 @@ pub use fields::byte_is;
 use job::{FIRST_SINKS_MOST, NETS_MOST, Refused, Terms};
 use latest::Latest;
 pub use log_check::{SoundLog, UnsoundLog};
+use place::{LineFault, LineRefusal};
 pub use printing::print_line;
-use reader::JobLines;
 use search::{EDGES_MOST, FIRST_EDGES_MOST, NODES_MOST, SINKS_MOST};
 pub use users::node_users;
 
@@ -225,11 +238,7 @@ fn if_timed(timed: bool, count: usize) -> usize
 // Writes the job that was read into the tables that were lent, or names the lowest that is too short for it. A timed job that exceeds its
 // bounds is refused after that.
 fn store_job(
-    nodes: usize,
-    edges: usize,
-    nets: usize,
-    count: usize,
-    terms: Terms,
+    counts: JobCounts,
     kinds: &[u8],
     capacities: &[u8],
     first_edges: &[u32],
@@ -248,11 +257,11 @@ fn store_job(
     sink: &mut [u16],
     delay: &mut [u16],
     criticality: &mut [u8],
-) -> ReadAnswer
+) -> Result<JobCounts, ReadRefusal>
     requires room_for_all { RoomForAll kinds.now capacities.now first_edges.now edge_targets.now
         sources.now first_sinks.now sinks.now delays.now criticalities.now }
-    requires counts_within { CountsWithin nodes edges nets × (count ≤ sinks_most) }
-    ensures { let job = job_taken nodes edges nets count terms kinds.now capacities.now first_edges.now
+    requires counts_within { CountsWithin counts.nodes counts.edges counts.nets × (counts.sinks ≤ sinks_most) }
+    ensures { let job = job_taken counts kinds.now capacities.now first_edges.now
         edge_targets.now sources.now first_sinks.now sinks.now
         delays.now criticalities.now in
         let tables = tables_of kind.old capacity.old first_edge.old edge_target.old
@@ -261,6 +270,13 @@ fn store_job(
         source.new first_sink.new sink.new delay.new criticality.new in
         read_reply_of result left ≡ stored_reply job tables }
 {
+    let JobCounts {
+        nodes,
+        edges,
+        nets,
+        sinks: count,
+        terms,
+    } = counts;
     let delays_due = if_timed(terms.timed, nodes);
     let criticalities_due = if_timed(terms.timed, count);
     let table = lowest_short(
@@ -281,13 +297,13 @@ fn store_job(
         criticality.len(),
     );
     if 1 <= table {
-        return ReadAnswer::ShortTable(table);
+        return Err(ReadRefusal::ShortTable(table));
     }
     if job::exceeds(nodes, terms) {
-        return ReadAnswer::TooLarge {
-            nodes: nodes,
+        return Err(ReadRefusal::TooLarge {
+            nodes,
             limit: terms.limit,
-        };
+        });
     }
     copy::copy_block(
         nodes,
@@ -319,25 +335,7 @@ fn store_job(
         delay,
         criticality,
     );
-    ReadAnswer::Job {
-        nodes: nodes,
-        edges: edges,
-        nets: nets,
-        sinks: count,
-        terms: terms,
-    }
-}
-
-// The answer at a line that is refused by this number.
-fn bad_line(number: u32, line: usize) -> ReadAnswer
-    requires { LineRow number }
-    ensures { (t : Tables) → read_reply_of result t ≡ not_read (number ∷ line ∷ []) t }
-{
-    match number {
-        1 => ReadAnswer::Malformed(line),
-        2 => ReadAnswer::BeyondBounds(line),
-        _ => ReadAnswer::WrongOrder(line),
-    }
+    Ok(counts)
 }
 
 // Reads a job text into the nine tables, each of which may be longer than the job needs. Delays and criticalities are written only for a
@@ -353,7 +351,7 @@ pub fn read_job(
     sink: &mut [u16],
     delay: &mut [u16],
     criticality: &mut [u8],
-) -> ReadAnswer
+) -> Result<JobCounts, ReadRefusal>
     ensures answers { let tables = tables_of kind.old capacity.old first_edge.old edge_target.old
         source.old first_sink.old sink.old delay.old criticality.old in
         let left = tables_of kind.new capacity.new first_edge.new edge_target.new
@@ -369,7 +367,7 @@ pub fn read_job(
     let mut sinks_read = [0u16; SINKS_MOST];
     let mut delays = [0u16; NODES_MOST];
     let mut criticalities = [0u8; SINKS_MOST];
-    match reader::read_lines(
+    let counts = reader::read_lines(
         text,
         &mut kinds,
         &mut capacities,
@@ -380,41 +378,28 @@ pub fn read_job(
         &mut sinks_read,
         &mut delays,
         &mut criticalities,
-    ) {
-        JobLines::Counts {
-            nodes,
-            edges,
-            nets,
-            sinks,
-            terms,
-            line: _,
-        } => store_job(
-            nodes,
-            edges,
-            nets,
-            sinks,
-            terms,
-            &kinds,
-            &capacities,
-            &first_edges,
-            &edge_targets,
-            &sources,
-            &first_sinks,
-            &sinks_read,
-            &delays,
-            &criticalities,
-            kind,
-            capacity,
-            first_edge,
-            edge_target,
-            source,
-            first_sink,
-            sink,
-            delay,
-            criticality,
-        ),
-        JobLines::Stopped { number, line } => bad_line(number, line),
-    }
+    )?;
+    store_job(
+        counts,
+        &kinds,
+        &capacities,
+        &first_edges,
+        &edge_targets,
+        &sources,
+        &first_sinks,
+        &sinks_read,
+        &delays,
+        &criticalities,
+        kind,
+        capacity,
+        first_edge,
+        edge_target,
+        source,
+        first_sink,
+        sink,
+        delay,
+        criticality,
+    )
 }
 
 // A text of a sound log: its parts one after the other, which are counted, and written if the buffer has room.

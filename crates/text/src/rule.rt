@@ -1,95 +1,77 @@
 // The V line, which may follow the first line of a job text and any P line.
-ghost use Rattle.std.specs.Prelude.{true, [], ◌∷◌, ◌≡◌, ◌+◌, ◌≤◌, length, drop};
+ghost use Rattle.std.specs.Prelude.{true, ◌≡◌, drop};
 ghost use Rattle.text.specs.Lines.{letter_v, begins, malformed, line};
 ghost use Rattle.text.specs.JobText.{rule_fields, rule_part};
-ghost use Rattle.text.specs.Steps.{Shaped, terms_at, TermsPlace};
+ghost use Rattle.text.specs.Steps.{Within, Shaped, terms_at, TermsPlace};
 
 use crate::fields::LineFields;
-use crate::optional::{Shape, TermsRead};
+use crate::optional::TermsRead;
+use crate::place::{LineFault, LineRefusal, Place};
 use crate::{fields, optional};
 use job::Terms;
 
-// What stands at the place of the V line, with its rule and the last iteration before rule 2 is followed.
-#[derive(Clone, Copy)]
-pub struct RuleLine {
-    pub shape: Shape,
-    pub rule: u32,
-    pub until: u32,
-}
-
 // A V line that does not have one number: it has two, and the first is not 1.
-fn longer_line(text: &[u8], at: usize) -> RuleLine
-    requires { let bytes = drop at text.now in
+fn longer_line(text: &[u8], from: Place) -> Result<Option<LineFields>, LineRefusal>
+    requires { let bytes = drop from.at text.now in
         (begins letter_v bytes ≡ true) × (line letter_v 1 bytes ≡ malformed) }
-    ensures { Shaped letter_v rule_fields at text.now (result.rule ∷ result.until ∷ []) result.shape }
+    ensures { Shaped letter_v rule_fields 2 from text.now result }
 {
-    let LineFields::Fields {
-        first,
-        second,
-        third: _,
-        fourth: _,
-        next,
-    } = fields::line_fields(text, at, b'V', 2)
-    else {
-        return RuleLine {
-            shape: Shape::Malformed,
-            rule: 1,
-            until: 1,
-        };
+    let malformed = LineRefusal {
+        fault: LineFault::Malformed,
+        line: from.line,
     };
-    if first == 1 {
-        return RuleLine {
-            shape: Shape::Malformed,
-            rule: 1,
-            until: 1,
-        };
+    let Some(found) = fields::line_fields(text, from.at, b'V', 2) else {
+        return Err(malformed);
+    };
+    if found.first == 1 {
+        return Err(malformed);
     }
-    RuleLine {
-        shape: Shape::Line(next),
-        rule: first,
-        until: second,
-    }
+    Ok(Some(found))
 }
 
 // The V line with one number or two; a missing second number is 1.
-fn rule_line(text: &[u8], at: usize) -> RuleLine
-    ensures { Shaped letter_v rule_fields at text.now (result.rule ∷ result.until ∷ []) result.shape }
+fn rule_line(text: &[u8], from: Place) -> Result<Option<LineFields>, LineRefusal>
+    ensures { Shaped letter_v rule_fields 2 from text.now result }
 {
-    let found = optional::optional_line(text, at, b'V', 1);
-    let rule = found.first;
-    let shape = found.shape;
-    match shape {
-        Shape::LeftOut => RuleLine {
-            shape: Shape::LeftOut,
-            rule: 1,
-            until: 1,
-        },
-        Shape::Malformed => longer_line(text, at),
-        Shape::Line(next) => RuleLine {
-            shape: Shape::Line(next),
-            rule: rule,
-            until: 1,
-        },
-    }
+    let Ok(found) = optional::optional_line(text, from, b'V', 1) else {
+        return longer_line(text, from);
+    };
+    let Some(one) = found else {
+        return Ok(None);
+    };
+    Ok(Some(LineFields { second: 1, ..one }))
 }
 
 // The terms with the rule of the V line where there is one, else as they are.
-pub fn read_rule(text: &[u8], at: usize, line: usize, terms: Terms) -> TermsRead
-    requires { (at ≤ length text.now) × (line ≤ at + 1) }
-    ensures value { terms_at text.now result ≡ rule_part terms line (drop at text.now) }
+pub fn read_rule(text: &[u8], from: Place, terms: Terms) -> Result<TermsRead, LineRefusal>
+    requires { Within text.now from }
+    ensures value { terms_at text.now result ≡ rule_part terms from.line (drop from.at text.now) }
     ensures terms_place { TermsPlace text.now result }
 {
-    let found = rule_line(text, at);
-    let rule = found.rule;
-    let until = found.until;
-    let tuning = terms.tuning;
-    let ruled = Terms {
-        limit: terms.limit,
-        tuning: tuning,
-        rule: rule,
-        until: until,
-        timed: terms.timed,
+    let Some(found) = rule_line(text, from)? else {
+        return Ok(TermsRead { terms, place: from });
     };
-    let shape = found.shape;
-    optional::terms_after(shape, job::rule_sound(rule, until), terms, ruled, at, line)
+    let LineFields {
+        first: rule,
+        second: until,
+        next,
+        ..
+    } = found;
+    if !job::rule_sound(rule, until) {
+        return Err(LineRefusal {
+            fault: LineFault::BeyondBounds,
+            line: from.line,
+        });
+    }
+    Ok(TermsRead {
+        terms: Terms {
+            rule,
+            until,
+            ..terms
+        },
+        place: Place {
+            at: next,
+            line: from.line + 1,
+        },
+    })
 }

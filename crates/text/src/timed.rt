@@ -1,27 +1,30 @@
 // The W line, which may follow the first line of a job text and any P and V line.
-ghost use Rattle.std.specs.Prelude.{◌≡◌, ◌+◌, ◌≤◌, length, drop};
+ghost use Rattle.std.specs.Prelude.{◌≡◌, drop};
 ghost use Rattle.text.specs.JobText.{timed_part};
-ghost use Rattle.text.specs.Steps.{terms_at, TermsPlace};
+ghost use Rattle.text.specs.Steps.{Within, terms_at, TermsPlace};
 
 use crate::optional;
 use crate::optional::TermsRead;
+use crate::place::{LineRefusal, Place};
 use job::Terms;
 
 // The terms of a timed job where there is a W line, else as they are.
-pub fn read_times(text: &[u8], at: usize, line: usize, terms: Terms) -> TermsRead
-    requires { (at ≤ length text.now) × (line ≤ at + 1) }
-    ensures value { terms_at text.now result ≡ timed_part terms line (drop at text.now) }
+pub fn read_times(text: &[u8], from: Place, terms: Terms) -> Result<TermsRead, LineRefusal>
+    requires { Within text.now from }
+    ensures value { terms_at text.now result ≡ timed_part terms from.line (drop from.at text.now) }
     ensures terms_place { TermsPlace text.now result }
 {
-    let found = optional::optional_line(text, at, b'W', 0);
-    let tuning = terms.tuning;
-    let timed = Terms {
-        limit: terms.limit,
-        tuning: tuning,
-        rule: terms.rule,
-        until: terms.until,
-        timed: true,
+    let Some(found) = optional::optional_line(text, from, b'W', 0)? else {
+        return Ok(TermsRead { terms, place: from });
     };
-    let shape = found.shape;
-    optional::terms_after(shape, true, terms, timed, at, line)
+    Ok(TermsRead {
+        terms: Terms {
+            timed: true,
+            ..terms
+        },
+        place: Place {
+            at: found.next,
+            line: from.line + 1,
+        },
+    })
 }

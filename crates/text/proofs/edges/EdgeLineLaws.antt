@@ -1,7 +1,7 @@
 -- The E lines: what one gives by its numbers, a table that is filled up to a row, and what holds between two of them.
 --     rises_first, -later, -lower, -same, -least    the order of edges
 --     edge_shape, -beyond, -wrong, -taken           an E line
---     filled, fill_none, fill_more                  a part of a table that holds one value
+--     filled, part_filled                           a part of a table that holds one value
 --     EdgesRead                                     between two E lines
 -- Assumes nothing.
 use mathlib.Core.Bool.{Bool, true, false, not}
@@ -13,7 +13,8 @@ use native.Mathlib.Numerals.{add-one}
 use native.Mathlib.Omega.{arith}
 use lib.Dec.{eqb, ltb}
 use lib.ListN.{length, get_or, take, drop, set, replicate, length-append, length-take, length-drop, length-set, length-replicate, replicate-append-replicate, take-append-drop}
-use lib.Seq.{length-take-le, take-suc-set, drop-cons, set_at, take_at}
+use lib.Seq.{length-take-le, take-suc-set, take_at, drop-drop}
+use borrow.Rule.Slice.PartMut.{put_mid}
 use borrow.Author.Tests.{lt-ltb, le-ltb, eq-eqb, ne_eqb, ltb-true, eqb-true}
 use Rattle.price.specs.Test.{choose}
 use Rattle.price.specs.Lists.{up_to, total}
@@ -21,26 +22,30 @@ use Rattle.price.proofs.TestLaws.{by_test, both_left, both_right}
 use Rattle.price.proofs.ListLaws.{total-append}
 use Rattle.text.specs.Lines.{letter_e, taken, line}
 use Rattle.text.specs.JobText.{values, refused, last_of, rises, edge_within, edge_ordered, edge_line, part, stopped, edge_lists, edge_lines, first_places}
+use Rattle.text.specs.Steps as steps
 use Rattle.text.specs.Steps.{After, fields_at, edge_at, EdgePlace, edge_tables}
+use Rattle.core.specs.declared.option.Option.{Option}
+use Rattle.core.specs.declared.option.Option.TheVariants.{Some, None}
+use Rattle.core.specs.declared.result.Result.{Result}
+use Rattle.core.specs.declared.result.Result.TheVariants.{Ok, Err}
 use Rattle.text.specs.declared.fields.LineFields.{LineFields}
-use Rattle.text.specs.declared.fields.LineFields.TheVariants as lf
-use Rattle.text.specs.declared.edges.EdgeLine.{EdgeLine}
-use Rattle.text.specs.declared.edges.EdgeLine.TheVariants as el
+use Rattle.text.specs.declared.place.LineFault.{LineFault}
+use Rattle.text.specs.declared.edges.Edge.{Edge}
 use Rattle.text.proofs.JudgedLaws.{line-malformed, line_taken, judged-beyond, judged_wrong, judged-taken, judged-values}
 use Rattle.text.proofs.LastLaws.{last_more}
 
 -- ---- the order of edges
 
 module _ (count lastFrom last_to from to : ℕ) where
-  pub rises_first : count ≡ 0 → true ≡ rises count lastFrom last_to from to
+  pub rises_first : count ≡ 0 → eqb count 0 ≡ rises count lastFrom last_to from to
   unfolding rises
   rises_first e = rw (eq-eqb count 0 e)
 
-  pub rises_later : (count ≡ 0 → ⊥) → lastFrom < from → true ≡ rises count lastFrom last_to from to
+  pub rises_later : (count ≡ 0 → ⊥) → lastFrom < from → ltb lastFrom from ≡ rises count lastFrom last_to from to
   unfolding rises
   rises_later e l = rw (ne_eqb count 0 e, lt-ltb lastFrom from l)
 
-  pub rises_lower : (count ≡ 0 → ⊥) → from ≤ lastFrom → (lastFrom ≡ from → ⊥) → false ≡ rises count lastFrom last_to from to
+  pub rises_lower : (count ≡ 0 → ⊥) → from ≤ lastFrom → (lastFrom ≡ from → ⊥) → eqb lastFrom from ≡ rises count lastFrom last_to from to
   unfolding rises
   rises_lower e l d = rw (ne_eqb count 0 e, le-ltb lastFrom from l, ne_eqb lastFrom from d)
 
@@ -85,24 +90,24 @@ module _ (count lastFrom last_to a b : ℕ) where
   unfolding edge_ordered
   edge_order d q e = rw (ne_eqb a b d) (sym e ∙ q)
 
-module _ (n count lastFrom last_to at : ℕ) (text : List ℕ) {r : LineFields} (read : fields_at 2 text r ≡ line letter_e 2 (drop at text)) where
-  pub edge_shape : r ≡ lf.Fault → refused 1 ≡ edge_line n count lastFrom last_to (drop at text)
+module _ (n count lastFrom last_to at : ℕ) (text : List ℕ) {r : Option LineFields} (read : fields_at 2 text r ≡ line letter_e 2 (drop at text)) where
+  pub edge_shape : r ≡ None → refused 1 ≡ edge_line n count lastFrom last_to (drop at text)
   unfolding edge_line
   edge_shape e = rw (line-malformed 2 text read e)
 
-  module _ {a b c d next : ℕ} (e : r ≡ lf.Fields a b c d next) where
-    shape : line letter_e 2 (drop at text) ≡ taken (a ∷ b ∷ []) (drop next text)
+  module _ {l : LineFields} (e : r ≡ Some l) where
+    shape : line letter_e 2 (drop at text) ≡ taken (l.first ∷ l.second ∷ []) (drop l.next text)
     shape = line_taken 2 text read e
 
-    pub edge-beyond : edge_within n (a ∷ b ∷ []) ≡ false → refused 2 ≡ edge_line n count lastFrom last_to (drop at text)
+    pub edge-beyond : edge_within n (l.first ∷ l.second ∷ []) ≡ false → refused 2 ≡ edge_line n count lastFrom last_to (drop at text)
     unfolding edge_line
     edge-beyond i = sym (judged-beyond (edge_within n) (edge_ordered count lastFrom last_to) shape i)
 
-    pub edge_wrong : edge_within n (a ∷ b ∷ []) ≡ true → edge_ordered count lastFrom last_to (a ∷ b ∷ []) ≡ false → refused 3 ≡ edge_line n count lastFrom last_to (drop at text)
+    pub edge_wrong : edge_within n (l.first ∷ l.second ∷ []) ≡ true → edge_ordered count lastFrom last_to (l.first ∷ l.second ∷ []) ≡ false → refused 3 ≡ edge_line n count lastFrom last_to (drop at text)
     unfolding edge_line
     edge_wrong i o = sym (judged_wrong (edge_within n) (edge_ordered count lastFrom last_to) shape i o)
 
-    pub edge-taken : edge_within n (a ∷ b ∷ []) ≡ true → edge_ordered count lastFrom last_to (a ∷ b ∷ []) ≡ true → values (a ∷ b ∷ []) (drop next text) ≡ edge_line n count lastFrom last_to (drop at text)
+    pub edge-taken : edge_within n (l.first ∷ l.second ∷ []) ≡ true → edge_ordered count lastFrom last_to (l.first ∷ l.second ∷ []) ≡ true → values (l.first ∷ l.second ∷ []) (drop l.next text) ≡ edge_line n count lastFrom last_to (drop at text)
     unfolding edge_line
     edge-taken i o = sym (judged-taken (edge_within n) (edge_ordered count lastFrom last_to) shape i o)
 
@@ -119,23 +124,17 @@ edge_rising n count lastFrom last_to bs {a} {b} {rest} e =
 abbrev pub filled : List ℕ → ℕ → ℕ → ℕ → List ℕ
 filled table from to value = take from table ++ (replicate (to - from) value ++ drop to table)
 
-pub fill_none : (table : List ℕ) (from value : ℕ) → table ≡ filled table from from value
-fill_none table from value =
-    let e : from - from ≡ 0 = omega arith in
-    rw e (sym (take-append-drop from table))
-
-values-more : (table : List ℕ) (from k value : ℕ) → from ≤ k → (take from table ++ replicate (k - from) value) ++ (value ∷ drop (suc k) table) ≡ filled table from (k + 1) value
-values-more table from k value l =
-    let e : k + 1 - from ≡ (k - from) + 1 = omega arith in
-    rw (e, ← replicate-append-replicate {A = ℕ} (k - from) 1 value, add-one k) (simp append_assoc)
+-- that part, where it is lent and filled
+pub part_filled :
+    (table : List ℕ) (from to value : ℕ) {part : List ℕ} → from ≤ to → to ≤ length table
+    → part ≡ replicate (length (take (to - from) (drop from table))) value → put_mid from (to - from) table part ≡ filled table from to value
+part_filled table from to value {part} l h e =
+    let long : length (take (to - from) (drop from table)) ≡ to - from = simp (length-take, length-drop) (omega arith) in
+    let end : from + (to - from) ≡ to = omega arith in
+    rw (e, long, drop-drop (to - from) from table, end)
 
 filled-long : (table : List ℕ) (from k value : ℕ) → from ≤ k → k ≤ length table → length (take from table ++ replicate (k - from) value) ≡ k
 filled-long table from k value l h = simp (length-append, length-take, length-replicate) (omega arith)
-
-pub fill_more : (table : List ℕ) (from k value : ℕ) → from ≤ k → k < length table → set (filled table from k value) k value ≡ filled table from (k + 1) value
-fill_more table from k value l h =
-    rw (drop-cons table k 0 h, ← append_assoc (take from table) (replicate (k - from) value) (get_or table k 0 ∷ drop (suc k) table))
-    (set_at (take from table ++ replicate (k - from) value) (get_or table k 0) (drop (suc k) table) value k (filled-long table from k value l (omega arith)) ∙ values-more table from k value l)
 
 pub length-filled : (table : List ℕ) (from to value : ℕ) → from ≤ to → to ≤ length table → length (filled table from to value) ≡ length table
 length-filled table from to value l h = simp (length-append, length-take, length-replicate, length-drop) (omega arith)
@@ -257,38 +256,40 @@ module _
     left = omega arith
 
     -- the rows from the last edge's to this one's are within the table
-    pub edges_rows : {r : EdgeLine} {u v next : ℕ} → r ≡ el.Edge u v next → edge_at text r ≡ edge_line nodes k row target (drop at text) → EdgePlace nodes at text r → (row + 1 ≤ u + 1) × (u + 1 ≤ length firsts)
-    edges_rows {r} {u} {v} {next} e answered p =
-        let place : After (at + 1) text next × (u < nodes) × (v < nodes) = subst (λ (x : EdgeLine). EdgePlace nodes at text x) e p in
-        let low : row ≤ u = rises-least k row target u v first_row (edge_rising nodes k row target (drop at text) (sym (ap (edge_at text) e) ∙ answered)) in
+    pub edges_rows :
+        {r : Result Edge LineFault} {d : Edge} → r ≡ Ok d → edge_at text r ≡ edge_line nodes k row target (drop at text) → EdgePlace nodes at text r
+        → (row + 1 ≤ d.from + 1) × (d.from + 1 ≤ length firsts)
+    edges_rows {r} {d} e answered p =
+        let place : After (at + 1) text d.next × (d.from < nodes) × (d.to < nodes) = subst (λ (x : Result Edge LineFault). EdgePlace nodes at text x) e p in
+        let low : row ≤ d.from = rises-least k row target d.from d.to first_row (edge_rising nodes k row target (drop at text) (sym (ap (edge_at text) e) ∙ answered)) in
         (omega arith, omega (arith, s.firsts_same, room.0, place.1))
 
     pub edges_more :
-        {r : EdgeLine} {u v next : ℕ} {firsts' : List ℕ} → r ≡ el.Edge u v next → edge_at text r ≡ edge_line nodes k row target (drop at text)
-        → EdgePlace nodes at text r → firsts' ≡ filled firsts (row + 1) (u + 1) k
-        → EdgesRead text from first nodes edges firsts₀ targets₀ firsts' (set targets k v) next (line + 1) u v (k + 1)
-    edges_more {r} {u} {v} {next} {firsts'} e answered p filling =
-        let place : After (at + 1) text next × (u < nodes) × (v < nodes) = subst (λ (x : EdgeLine). EdgePlace nodes at text x) e p in
-        let wide : (row + 1 ≤ u + 1) × (u + 1 ≤ length firsts) = edges_rows e answered p in
-        let targets-more : take (k + 1) (set targets k v) ≡ take k targets ++ (v ∷ []) = rw add-one (take-suc-set targets k v (omega (arith, s.targets-same, room.1))) in
-        let froms-more : length (s.froms ++ (u ∷ [])) ≡ k + 1 = length-append s.froms (u ∷ []) ∙ rw s.froms-long in
+        {r : Result Edge LineFault} {d : Edge} {firsts' : List ℕ} → r ≡ Ok d → edge_at text r ≡ edge_line nodes k row target (drop at text)
+        → EdgePlace nodes at text r → firsts' ≡ filled firsts (row + 1) (d.from + 1) k
+        → EdgesRead text from first nodes edges firsts₀ targets₀ firsts' (set targets k d.to) d.next (line + 1) d.from d.to (k + 1)
+    edges_more {r} {d} {firsts'} e answered p filling =
+        let place : After (at + 1) text d.next × (d.from < nodes) × (d.to < nodes) = subst (λ (x : Result Edge LineFault). EdgePlace nodes at text x) e p in
+        let wide : (row + 1 ≤ d.from + 1) × (d.from + 1 ≤ length firsts) = edges_rows e answered p in
+        let targets-more : take (k + 1) (set targets k d.to) ≡ take k targets ++ (d.to ∷ []) = rw add-one (take-suc-set targets k d.to (omega (arith, s.targets-same, room.1))) in
+        let froms-more : length (s.froms ++ (d.from ∷ [])) ≡ k + 1 = length-append s.froms (d.from ∷ []) ∙ rw s.froms-long in
         record {
           read = omega arith;
-          firsts_same = rw filling (length-filled firsts (row + 1) (u + 1) k wide.0 wide.1) ∙ s.firsts_same;
-          targets-same = length-set targets k v ∙ s.targets-same;
+          firsts_same = rw filling (length-filled firsts (row + 1) (d.from + 1) k wide.0 wide.1) ∙ s.firsts_same;
+          targets-same = length-set targets k d.to ∙ s.targets-same;
           at_most = place.0.1;
           line-most = omega (arith, s.line-most, place.0.0);
           row-most = omega (arith, place.1);
-          froms = s.froms ++ (u ∷ []);
+          froms = s.froms ++ (d.from ∷ []);
           froms-long = froms-more;
-          last_from = last_more s.froms u;
-          last-to = rw targets-more (last_more (take k targets) v);
-          above = λ x b. before_more s.froms u x ∙ rw (s.above x (omega arith), lt-ltb u x b) (sym (length-append s.froms (u ∷ [])));
+          last_from = last_more s.froms d.from;
+          last-to = rw targets-more (last_more (take k targets) d.to);
+          above = λ x b. before_more s.froms d.from x ∙ rw (s.above x (omega arith), lt-ltb d.from x b) (sym (length-append s.froms (d.from ∷ [])));
           rows =
               rw filling
-              (rw s.froms-long at (rows_filled s.froms firsts row u (omega arith) wide.1 s.above s.rows))
-              ∙ up_to_same_lem (before s.froms) (before (s.froms ++ (u ∷ []))) (u + 1)
-              (λ i b. sym (before_more s.froms u i ∙ rw (le-ltb u i (omega arith), add-zero)));
+              (rw s.froms-long at (rows_filled s.froms firsts row d.from (omega arith) wide.1 s.above s.rows))
+              ∙ up_to_same_lem (before s.froms) (before (s.froms ++ (d.from ∷ []))) (d.from + 1)
+              (λ i b. sym (before_more s.froms d.from i ∙ rw (le-ltb d.from i (omega arith), add-zero)));
           rest_is =
               s.rest_is
               ∙ rw (left, targets-more)
@@ -296,10 +297,10 @@ module _
         }
 
     pub edges_stop :
-        {r : EdgeLine} {m : ℕ} → r ≡ el.Refused m → edge_at text r ≡ edge_line nodes k row target (drop at text)
-        → stopped m line ≡ edge_tables nodes (edge_lines nodes edges (edge_lists [] []) first (drop from text))
+        {r : Result Edge LineFault} {m : LineFault} → r ≡ Err m → edge_at text r ≡ edge_line nodes k row target (drop at text)
+        → stopped (steps.row m) line ≡ edge_tables nodes (edge_lines nodes edges (edge_lists [] []) first (drop from text))
     edges_stop {r} {m} e answered =
-        let stop : edge_lines nodes edges (edge_lists [] []) first (drop from text) ≡ stopped m line =
+        let stop : edge_lines nodes edges (edge_lists [] []) first (drop from text) ≡ stopped (steps.row m) line =
         s.rest_is ∙ rw left (edge_stop nodes (edges - (k + 1)) k row target line s.froms (take k targets) (drop at text) targets_read s.last_from s.last-to (sym (ap (edge_at text) e) ∙ answered)) in
         sym (ap (edge_tables nodes) stop)
 

@@ -19,14 +19,19 @@ use Rattle.job.specs.Tables.{nets_most}
 use Rattle.job.specs.declared.Terms.{Terms}
 use Rattle.text.specs.Lines.{letter_f, line}
 use Rattle.text.specs.JobText.{values, refused, part, stopped, between, head_within, head_line, terms_part, counts_of, head_part}
-use Rattle.text.specs.Steps.{fields_at, head_at, HeadPlace, terms_at}
+use Rattle.text.specs.Steps.{row, fields_at, head_at, HeadPlace, terms_at}
 use Rattle.text.specs.ReadSteps.{CountsWithin}
+use Rattle.core.specs.declared.option.Option.{Option}
+use Rattle.core.specs.declared.option.Option.TheVariants.{Some, None}
+use Rattle.core.specs.declared.result.Result.{Result}
+use Rattle.core.specs.declared.result.Result.TheVariants.{Ok, Err}
 use Rattle.text.specs.declared.fields.LineFields.{LineFields}
-use Rattle.text.specs.declared.fields.LineFields.TheVariants as lf
-use Rattle.text.specs.declared.head.Head.{Head}
-use Rattle.text.specs.declared.head.Head.TheVariants as hd
+use Rattle.text.specs.declared.place.Place.{Place}
+use Rattle.text.specs.declared.place.LineFault.{LineFault}
+use Rattle.text.specs.declared.place.LineFault.TheVariants.{Malformed, BeyondBounds}
+use Rattle.text.specs.declared.place.LineRefusal.{LineRefusal}
 use Rattle.text.specs.declared.optional.TermsRead.{TermsRead}
-use Rattle.text.specs.declared.optional.TermsRead.TheVariants as tr
+use Rattle.text.specs.declared.head.Head.{Head}
 use Rattle.text.proofs.JudgedLaws.{line-malformed, line_taken, judged-beyond, judged-taken, judged-values}
 
 module _ (n e t l : ℕ) where
@@ -76,47 +81,49 @@ head_bounds n edges nets limit e =
       nets_most_lem = leb-true nets nets_most (both_right (leb 1 nets) (leb nets nets_most) (both_left (between 1 nets_most nets) limits last));
     }
 
-module _ (text : List ℕ) {r : LineFields} (read : fields_at 4 text r ≡ line letter_f 4 text) where
-  pub head_malformed : r ≡ lf.Fault → refused 1 ≡ head_line text
+module _ (text : List ℕ) {r : Option LineFields} (read : fields_at 4 text r ≡ line letter_f 4 text) where
+  pub head_malformed : r ≡ None → refused 1 ≡ head_line text
   unfolding head_line
   head_malformed e = rw (line-malformed 4 text read e)
 
-  module _ {a b c d next : ℕ} (e : r ≡ lf.Fields a b c d next) where
-    pub head_beyond : head_within (a ∷ b ∷ c ∷ d ∷ []) ≡ false → refused 2 ≡ head_line text
+  module _ {l : LineFields} (e : r ≡ Some l) where
+    pub head_beyond : head_within (l.first ∷ l.second ∷ l.third ∷ l.fourth ∷ []) ≡ false → refused 2 ≡ head_line text
     unfolding head_line
     head_beyond w = sym (judged-beyond head_within (λ vs. true) (line_taken 4 text read e) w)
 
-    pub head_read : head_within (a ∷ b ∷ c ∷ d ∷ []) ≡ true → values (a ∷ b ∷ c ∷ d ∷ []) (drop next text) ≡ head_line text
+    pub head_read :
+        head_within (l.first ∷ l.second ∷ l.third ∷ l.fourth ∷ []) ≡ true
+        → values (l.first ∷ l.second ∷ l.third ∷ l.fourth ∷ []) (drop l.next text) ≡ head_line text
     unfolding head_line
     head_read w = sym (judged-taken head_within (λ vs. true) (line_taken 4 text read e) w refl)
 
 -- the first line as it was read, and the lines before the nodes
-module _ (text : List ℕ) (x : Head) (read : head_at text x ≡ head_line text) where
-  pub head_refused : {k : ℕ} → x ≡ hd.Refused k → stopped k 1 ≡ head_part text
+module _ (text : List ℕ) {x : Result Head LineFault} (read : head_at text x ≡ head_line text) where
+  pub head_refused : {k : LineFault} → x ≡ Err k → stopped (row k) 1 ≡ head_part text
   unfolding head_part
   head_refused is = rw (← read, is)
 
-  module _ {n edges nets limit next : ℕ} (is : x ≡ hd.Counts n edges nets limit next) where
-    bounds : head_within (n ∷ edges ∷ nets ∷ limit ∷ []) ≡ true
+  module _ {h : Head} (is : x ≡ Ok h) where
+    bounds : head_within (h.nodes ∷ h.edges ∷ h.nets ∷ h.limit ∷ []) ≡ true
     unfolding head_line
     bounds =
-        (judged-values head_within (λ vs. true) (line letter_f 4 text) (n ∷ edges ∷ nets ∷ limit ∷ []) (drop next text)
+        (judged-values head_within (λ vs. true) (line letter_f 4 text) (h.nodes ∷ h.edges ∷ h.nets ∷ h.limit ∷ []) (drop h.next text)
         (sym read ∙ ap (head_at text) is)).bounds
 
-    pub head_counts : CountsWithin n edges nets
-    head_counts = head_bounds n edges nets limit bounds
+    pub head_counts : CountsWithin h.nodes h.edges h.nets
+    head_counts = head_bounds h.nodes h.edges h.nets h.limit bounds
 
-    module _ (y : TermsRead) (asked : terms_at text y ≡ terms_part limit 2 (drop next text)) where
+    module _ {y : Result TermsRead LineRefusal} (asked : terms_at text y ≡ terms_part h.limit 2 (drop h.next text)) where
       pub head_read_on :
-          {t : Terms} {at line : ℕ} → y ≡ tr.Read t at line
-          → part (counts_of (n ∷ edges ∷ nets ∷ limit ∷ []) t) line (drop at text) ≡ head_part text
+          {t : TermsRead} → y ≡ Ok t
+          → part (counts_of (h.nodes ∷ h.edges ∷ h.nets ∷ h.limit ∷ []) t.terms) t.place.line (drop t.place.at text) ≡ head_part text
       unfolding head_part
       head_read_on known = rw (← read, is, ← asked, known)
 
-      pub head_stopped : {k line : ℕ} → y ≡ tr.Stopped k line → stopped k line ≡ head_part text
+      pub head_stopped : {e : LineRefusal} → y ≡ Err e → stopped (row e.fault) e.line ≡ head_part text
       unfolding head_part
       head_stopped known = rw (← read, is, ← asked, known)
 
 -- where the first line ends
-pub head_place : (text : List ℕ) (x : Head) {n edges nets limit next : ℕ} → x ≡ hd.Counts n edges nets limit next → HeadPlace text x → (1 ≤ next) × (next ≤ length text)
-head_place text x is place = rw is at place
+pub head_place : (text : List ℕ) {x : Result Head LineFault} {h : Head} → x ≡ Ok h → HeadPlace text x → (1 ≤ h.next) × (h.next ≤ length text)
+head_place text is place = rw is at place

@@ -15,10 +15,11 @@ use borrow.Author.Tests.{lt-ltb, le-ltb, eq-eqb, ne_eqb}
 use Rattle.price.proofs.TestLaws.{both_false_right}
 use Rattle.search.specs.Replies.{sinks_most}
 use Rattle.text.specs.JobText.{values, refused, Part, part, stopped, NetLists, net_lists, complete, net_end, net_line, net_lines}
-use Rattle.text.specs.Steps.{nets_at, NetKept, net_line_at, KeptAfter}
+use Rattle.text.specs.Steps.{row, nets_at, NetKept, net_line_at, KeptAfter}
 use Rattle.text.specs.declared.nets.NetCursor.{NetCursor}
-use Rattle.text.specs.declared.nets.NetStep.{NetStep}
-use Rattle.text.specs.declared.nets.NetStep.TheVariants as ns
+use Rattle.core.specs.declared.result.Result.{Result}
+use Rattle.core.specs.declared.result.Result.TheVariants.{Ok, Err}
+use Rattle.text.specs.declared.place.LineFault.{LineFault}
 use Rattle.text.proofs.nets.NetStepLaws.{some_left, sources_now, sinks_now_lem}
 
 module _ (m : ℕ) (timed : Bool) (kinds : List ℕ) (n nets at : ℕ) (l : NetLists) {b : ℕ} {rest bs : List ℕ} (h : bs ≡ b ∷ rest) where
@@ -81,12 +82,12 @@ module _
     left-more = omega (arith, length-drop c.at text, g.enough)
 
     pub going_more :
-        (step : NetStep) {next : NetCursor} (sources' first_sinks' sinks' criticalities' seen' : List ℕ) → step ≡ ns.On next
+        (step : Result NetCursor LineFault) {next : NetCursor} (sources' first_sinks' sinks' criticalities' seen' : List ℕ) → step ≡ Ok next
         → net_line_at text step sources' first_sinks' sinks' criticalities' ≡ net_line timed kinds n nets (nets_at c sources first_sinks sinks criticalities) (drop c.at text)
         → KeptAfter n nets text c step sources' first_sinks' sinks' criticalities' seen' → Going timed kinds n nets text whole next sources' first_sinks' sinks' criticalities' seen'
     going_more step {next} sources' first_sinks' sinks' criticalities' seen' q e a =
         let e' : values (nets_at next sources' first_sinks' sinks' criticalities') (drop next.at text) ≡ net_line timed kinds n nets (nets_at c sources first_sinks sinks criticalities) (drop c.at text) = rw q at e in
-        let a' : KeptAfter n nets text c (ns.On next) sources' first_sinks' sinks' criticalities' seen' = rw q at a in
+        let a' : KeptAfter n nets text c (Ok next) sources' first_sinks' sinks' criticalities' seen' = rw q at a in
         record {
           left = g.left - 1;
           enough = omega (arith, length-drop c.at text, length-drop next.at text, g.enough, a'.0);
@@ -95,18 +96,18 @@ module _
         }
 
     pub going_later :
-        (step : NetStep) {next : NetCursor} (sources' first_sinks' sinks' criticalities' seen' : List ℕ) → step ≡ ns.On next
+        (step : Result NetCursor LineFault) {next : NetCursor} (sources' first_sinks' sinks' criticalities' seen' : List ℕ) → step ≡ Ok next
         → KeptAfter n nets text c step sources' first_sinks' sinks' criticalities' seen' → length text - next.at < length text - c.at
     going_later step {next} sources' first_sinks' sinks' criticalities' seen' q a =
-        let a' : KeptAfter n nets text c (ns.On next) sources' first_sinks' sinks' criticalities' seen' = rw q at a in
+        let a' : KeptAfter n nets text c (Ok next) sources' first_sinks' sinks' criticalities' seen' = rw q at a in
         omega (arith, a'.0)
 
     pub going_stops :
-        (step : NetStep) {number : ℕ} (sources' first_sinks' sinks' criticalities' : List ℕ) → step ≡ ns.Stopped number
+        (step : Result NetCursor LineFault) {number : LineFault} (sources' first_sinks' sinks' criticalities' : List ℕ) → step ≡ Err number
         → net_line_at text step sources' first_sinks' sinks' criticalities' ≡ net_line timed kinds n nets (nets_at c sources first_sinks sinks criticalities) (drop c.at text)
-        → stopped number c.line ≡ whole
+        → stopped (row number) c.line ≡ whole
     going_stops step {number} sources' first_sinks' sinks' criticalities' q e =
-        let e' : refused number ≡ net_line timed kinds n nets (nets_at c sources first_sinks sinks criticalities) (drop c.at text) = rw q at e in
+        let e' : refused (row number) ≡ net_line timed kinds n nets (nets_at c sources first_sinks sinks criticalities) (drop c.at text) = rw q at e in
         sym (lines_stop (g.left - 1) timed kinds n nets c.line (nets_at c sources first_sinks sinks criticalities) (drop-cons text c.at 0 inside) (sym e')) ∙ rw (← left-more) g.same
 
   -- the text is used up

@@ -25,8 +25,9 @@ use Rattle.job.specs.Tables.{source_kind, sink_kind}
 use Rattle.text.specs.JobText.{Reading, values, refused, NetLists, last_of, sinks_now, source_due, sink_due, with_source, with_sink, taking, source_line, sink_line, of_kind, next_source, next_sink, net_line}
 use Rattle.text.specs.Steps.{three_of, Marked, nets_at, NetKept, SourceAdded, SinkAdded, net_line_at, KeptAfter}
 use Rattle.text.specs.declared.nets.NetCursor.{NetCursor}
-use Rattle.text.specs.declared.nets.NetStep.{NetStep}
-use Rattle.text.specs.declared.nets.NetStep.TheVariants as ns
+use Rattle.core.specs.declared.result.Result.{Result}
+use Rattle.core.specs.declared.result.Result.TheVariants.{Ok, Err}
+use Rattle.text.specs.declared.place.LineFault.{LineFault}
 use Rattle.text.proofs.NetLineLaws.{three_of_kind, sink-few}
 use Rattle.text.proofs.JudgedLaws.{taking-taking}
 use Rattle.text.proofs.LastLaws.{last_more}
@@ -34,15 +35,6 @@ use Rattle.text.proofs.LastLaws.{last_more}
 -- ---- another net is due
 
 module _ (k nets first sinks : ℕ) where
-  pub due-none : nets ≤ k → false ≡ both (ltb k nets) (either (eqb k 0) (ltb first sinks))
-  due-none h = rw (le-ltb k nets h)
-
-  pub due_first : k < nets → k ≡ 0 → true ≡ both (ltb k nets) (either (eqb k 0) (ltb first sinks))
-  due_first h e = rw (lt-ltb k nets h, eq-eqb k 0 e)
-
-  pub due-next : k < nets → (k ≡ 0 → ⊥) → ltb first sinks ≡ both (ltb k nets) (either (eqb k 0) (ltb first sinks))
-  due-next h e = rw (lt-ltb k nets h, ne_eqb k 0 e)
-
   pub due_below : {t : Bool} → t ≡ both (ltb k nets) (either (eqb k 0) (ltb first sinks)) → t ≡ true → k < nets
   due_below e b = ltb-true k nets (both_left (ltb k nets) (either (eqb k 0) (ltb first sinks)) (sym e ∙ b))
 
@@ -146,14 +138,14 @@ module _ {n nets : ℕ} {text : List ℕ} {c : NetCursor} {sources first_sinks s
         ∙ ap (λ (i : ℕ). taking (with_source (nets_at c sources first_sinks sinks criticalities)) (of_kind source_kind kinds (source_line n nets i (drop c.at text)))) sources_now
 
     pub source_step :
-        (step : NetStep) (sources' first_sinks' seen' : List ℕ) → get_or text c.at 0 ≡ letter_s
+        (step : Result NetCursor LineFault) (sources' first_sinks' seen' : List ℕ) → get_or text c.at 0 ≡ letter_s
         → source_due nets (nets_at c sources first_sinks sinks criticalities) ≡ true → c.nets < nets
         → SourceAdded n nets text c step sources first_sinks seen sources' first_sinks' seen' (of_kind source_kind kinds (source_line n nets c.nets (drop c.at text)))
         → (net_line_at text step sources' first_sinks' sinks criticalities ≡ net_line timed kinds n nets (nets_at c sources first_sinks sinks criticalities) (drop c.at text)) × KeptAfter
         n nets text c step sources' first_sinks' sinks criticalities seen'
     unfolding sinks_now
-    source_step (ns.Stopped number) sources' first_sinks' seen' e d b a = (sym (source_line-is e d ∙ ap (taking (with_source (nets_at c sources first_sinks sinks criticalities))) a), tt)
-    source_step (ns.On next) sources' first_sinks' seen' e d b a =
+    source_step (Err number) sources' first_sinks' seen' e d b a = (sym (source_line-is e d ∙ ap (taking (with_source (nets_at c sources first_sinks sinks criticalities))) a), tt)
+    source_step (Ok next) sources' first_sinks' seen' e d b a =
         let node : ℕ = a.0 in
         let in-seen : node < length seen = omega (arith, k.room.seen-long, a.2) in
         let s : take next.nets sources' ≡ take c.nets sources ++ (node ∷ []) = rw (a.5, a.8) (take_more sources c.nets node (omega arith)) in
@@ -229,17 +221,17 @@ module _ {n nets : ℕ} {text : List ℕ} {c : NetCursor} {sources first_sinks s
         ∙ rw (sources_now, all-sinks_now)
 
     pub sink_step :
-        (step : NetStep) (sinks' criticalities' seen' : List ℕ) → (get_or text c.at 0 ≡ letter_s → ⊥) → get_or text c.at 0 ≡ letter_t → 1 ≤ c.nets
+        (step : Result NetCursor LineFault) (sinks' criticalities' seen' : List ℕ) → (get_or text c.at 0 ≡ letter_s → ⊥) → get_or text c.at 0 ≡ letter_t → 1 ≤ c.nets
         →
         ((pins : List ℕ) → Marked n c.nets seen pins
         → SinkAdded n nets text c step sinks criticalities seen sinks' criticalities' seen'
         (of_kind sink_kind kinds (taking three_of (sink_line timed n nets (c.nets - 1) pins c.sinks (drop c.at text)))))
         → (net_line_at text step sources first_sinks sinks' criticalities' ≡ net_line timed kinds n nets (nets_at c sources first_sinks sinks criticalities) (drop c.at text)) × KeptAfter n
         nets text c step sources first_sinks sinks' criticalities' seen'
-    sink_step (ns.Stopped number) sinks' criticalities' seen' f e h added =
+    sink_step (Err number) sinks' criticalities' seen' f e h added =
         let a = added (last_of (take c.nets sources) ∷ sinks_now (nets_at c sources first_sinks sinks criticalities)) (k.marked h) in
         (sym (sink_line-is f e h ∙ ap (taking (with_sink (nets_at c sources first_sinks sinks criticalities))) a), tt)
-    sink_step (ns.On next) sinks' criticalities' seen' f e h added =
+    sink_step (Ok next) sinks' criticalities' seen' f e h added =
         let pins : List ℕ = last_of (take c.nets sources) ∷ sinks_now (nets_at c sources first_sinks sinks criticalities) in
         let a = added pins (k.marked h) in
         let node : ℕ = a.0 in

@@ -15,11 +15,14 @@ use borrow.Author.Tests.{lt-ltb, le-ltb, le-leb, lt-leb, eq-eqb, ne_eqb}
 use Rattle.price.specs.Test.{choose}
 use Rattle.text.specs.Lines.{letter_n, taken, line}
 use Rattle.text.specs.JobText.{values, refused, node_within, node_line, taking, part, stopped, onward, node_lists, with_node, node_lines}
-use Rattle.text.specs.Steps.{After, fields_at, four_of, node_at, NodePlace}
+use Rattle.text.specs.Steps.{row, After, fields_at, four_of, node_at, NodePlace}
+use Rattle.core.specs.declared.option.Option.{Option}
+use Rattle.core.specs.declared.option.Option.TheVariants.{Some, None}
+use Rattle.core.specs.declared.result.Result.{Result}
+use Rattle.core.specs.declared.result.Result.TheVariants.{Ok, Err}
 use Rattle.text.specs.declared.fields.LineFields.{LineFields}
-use Rattle.text.specs.declared.fields.LineFields.TheVariants as lf
-use Rattle.text.specs.declared.nodes.NodeLine.{NodeLine}
-use Rattle.text.specs.declared.nodes.NodeLine.TheVariants as nl
+use Rattle.text.specs.declared.place.LineFault.{LineFault}
+use Rattle.text.specs.declared.nodes.Node.{Node}
 use Rattle.text.proofs.JudgedLaws.{line-malformed, line_taken, judged-beyond, judged_wrong, judged-taken, onward-taking}
 
 -- ---- an N line
@@ -62,42 +65,42 @@ numbers_four true a b c d = refl
 numbers_four false a b c d = refl
 
 module _
-    (timed : Bool) (n v at : ℕ) (text : List ℕ) {count : ℕ} {r : LineFields} (numbers : count ≡ choose timed 4 3)
+    (timed : Bool) (n v at : ℕ) (text : List ℕ) {count : ℕ} {r : Option LineFields} (numbers : count ≡ choose timed 4 3)
     (read : fields_at count text r ≡ line letter_n count (drop at text)) where
-  pub node_shape : r ≡ lf.Fault → refused 1 ≡ taking four_of (node_line timed n v (drop at text))
+  pub node_shape : r ≡ None → refused 1 ≡ taking four_of (node_line timed n v (drop at text))
   unfolding node_line
   node_shape e = rw (← numbers, line-malformed count text read e)
 
-  module _ {a b c d delay next : ℕ} (e : r ≡ lf.Fields a b c d next) (weighed : delay ≡ choose timed d 0) where
-    shape : line letter_n (choose timed 4 3) (drop at text) ≡ taken (take (choose timed 4 3) (a ∷ b ∷ c ∷ d ∷ [])) (drop next text)
+  module _ {l : LineFields} {delay : ℕ} (e : r ≡ Some l) (weighed : delay ≡ choose timed l.fourth 0) where
+    shape : line letter_n (choose timed 4 3) (drop at text) ≡ taken (take (choose timed 4 3) (l.first ∷ l.second ∷ l.third ∷ l.fourth ∷ [])) (drop l.next text)
     shape = rw (← numbers) (line_taken count text read e)
 
-    four : four_of (take (choose timed 4 3) (a ∷ b ∷ c ∷ d ∷ [])) ≡ a ∷ b ∷ c ∷ delay ∷ []
-    four = rw weighed (numbers_four timed a b c d)
+    four : four_of (take (choose timed 4 3) (l.first ∷ l.second ∷ l.third ∷ l.fourth ∷ [])) ≡ l.first ∷ l.second ∷ l.third ∷ delay ∷ []
+    four = rw weighed (numbers_four timed l.first l.second l.third l.fourth)
 
-    within : node_within n (take (choose timed 4 3) (a ∷ b ∷ c ∷ d ∷ [])) ≡ node_within n (a ∷ b ∷ c ∷ delay ∷ [])
+    within : node_within n (take (choose timed 4 3) (l.first ∷ l.second ∷ l.third ∷ l.fourth ∷ [])) ≡ node_within n (l.first ∷ l.second ∷ l.third ∷ delay ∷ [])
     unfolding node_within
     within = ap (node_within n) four
 
-    first : get_or (take (choose timed 4 3) (a ∷ b ∷ c ∷ d ∷ [])) 0 0 ≡ a
+    first : get_or (take (choose timed 4 3) (l.first ∷ l.second ∷ l.third ∷ l.fourth ∷ [])) 0 0 ≡ l.first
     first = ap (λ (vs : List ℕ). get_or vs 0 0) four
 
-    pub node-beyond : node_within n (a ∷ b ∷ c ∷ delay ∷ []) ≡ false → refused 2 ≡ taking four_of (node_line timed n v (drop at text))
+    pub node-beyond : node_within n (l.first ∷ l.second ∷ l.third ∷ delay ∷ []) ≡ false → refused 2 ≡ taking four_of (node_line timed n v (drop at text))
     unfolding node_line
     node-beyond w = sym (ap (taking four_of) (judged-beyond (node_within n) (λ vs. eqb (get_or vs 0 0) v) shape (within ∙ w)))
 
-    pub node_wrong : node_within n (a ∷ b ∷ c ∷ delay ∷ []) ≡ true → (a ≡ v → ⊥) → refused 3 ≡ taking four_of (node_line timed n v (drop at text))
+    pub node_wrong : node_within n (l.first ∷ l.second ∷ l.third ∷ delay ∷ []) ≡ true → (l.first ≡ v → ⊥) → refused 3 ≡ taking four_of (node_line timed n v (drop at text))
     unfolding node_line
-    node_wrong w o = sym (ap (taking four_of) (judged_wrong (node_within n) (λ vs. eqb (get_or vs 0 0) v) shape (within ∙ w) (rw first (ne_eqb a v o))))
+    node_wrong w o = sym (ap (taking four_of) (judged_wrong (node_within n) (λ vs. eqb (get_or vs 0 0) v) shape (within ∙ w) (rw first (ne_eqb l.first v o))))
 
     pub node-taken :
-        node_within n (a ∷ b ∷ c ∷ delay ∷ []) ≡ true → a ≡ v
-        → values (v ∷ b ∷ c ∷ delay ∷ []) (drop next text) ≡ taking four_of (node_line timed n v (drop at text))
+        node_within n (l.first ∷ l.second ∷ l.third ∷ delay ∷ []) ≡ true → l.first ≡ v
+        → values (v ∷ l.second ∷ l.third ∷ delay ∷ []) (drop l.next text) ≡ taking four_of (node_line timed n v (drop at text))
     unfolding node_line
     node-taken w o =
-        ap (λ (x : ℕ). values (x ∷ b ∷ c ∷ delay ∷ []) (drop next text)) (sym o)
-        ∙ ap (λ (vs : List ℕ). values vs (drop next text)) (sym four)
-        ∙ sym (ap (taking four_of) (judged-taken (node_within n) (λ vs. eqb (get_or vs 0 0) v) shape (within ∙ w) (rw first (eq-eqb a v o))))
+        ap (λ (x : ℕ). values (x ∷ l.second ∷ l.third ∷ delay ∷ []) (drop l.next text)) (sym o)
+        ∙ ap (λ (vs : List ℕ). values vs (drop l.next text)) (sym four)
+        ∙ sym (ap (taking four_of) (judged-taken (node_within n) (λ vs. eqb (get_or vs 0 0) v) shape (within ∙ w) (rw first (eq-eqb l.first v o))))
 
 -- ---- between two N lines
 
@@ -151,26 +154,26 @@ module _
     left = omega arith
 
     pub nodes-more :
-        {r : NodeLine} {k c d next : ℕ} → r ≡ nl.Node k c d next → node_at v text r ≡ taking four_of (node_line timed nodes v (drop at text)) → NodePlace at text r
-        → NodesRead timed text from first nodes kinds₀ capacities₀ delays₀ (set kinds v k) (set capacities v c) (set delays v d) next (line + 1) (v + 1)
-    nodes-more {r} {k} {c} {d} {next} e answered p =
-        let place : After (at + 1) text next = subst (λ (x : NodeLine). NodePlace at text x) e p in
+        {r : Result Node LineFault} {n : Node} → r ≡ Ok n → node_at v text r ≡ taking four_of (node_line timed nodes v (drop at text)) → NodePlace at text r
+        → NodesRead timed text from first nodes kinds₀ capacities₀ delays₀ (set kinds v n.kind) (set capacities v n.capacity) (set delays v n.delay) n.next (line + 1) (v + 1)
+    nodes-more {r} {n} e answered p =
+        let place : After (at + 1) text n.next = subst (λ (x : Result Node LineFault). NodePlace at text x) e p in
         record {
           read = omega arith;
-          kinds-same = length-set kinds v k ∙ s.kinds-same;
-          capacities-same = length-set capacities v c ∙ s.capacities-same;
-          delays-same = length-set delays v d ∙ s.delays-same;
+          kinds-same = length-set kinds v n.kind ∙ s.kinds-same;
+          capacities-same = length-set capacities v n.capacity ∙ s.capacities-same;
+          delays-same = length-set delays v n.delay ∙ s.delays-same;
           at_most = place.1;
           line-most = omega (arith, s.line-most, place.0);
           rest_is =
               s.rest_is
-              ∙ rw (left, add-one v, take-suc-set kinds v k (omega (arith, s.kinds-same, room.0)), take-suc-set capacities v c (omega (arith, s.capacities-same, room.1)), take-suc-set delays v d (omega (arith, s.delays-same, room.2)))
+              ∙ rw (left, add-one v, take-suc-set kinds v n.kind (omega (arith, s.kinds-same, room.0)), take-suc-set capacities v n.capacity (omega (arith, s.capacities-same, room.1)), take-suc-set delays v n.delay (omega (arith, s.delays-same, room.2)))
               (node_step timed nodes (nodes - suc v) v line (take v kinds) (take v capacities) (take v delays) (drop at text) kinds_read (sym (ap (node_at v text) e) ∙ answered));
         }
 
     pub nodes_stop :
-        {r : NodeLine} {m : ℕ} → r ≡ nl.Refused m → node_at v text r ≡ taking four_of (node_line timed nodes v (drop at text))
-        → stopped m line ≡ node_lines timed nodes nodes (node_lists [] [] []) first (drop from text)
+        {r : Result Node LineFault} {k : LineFault} → r ≡ Err k → node_at v text r ≡ taking four_of (node_line timed nodes v (drop at text))
+        → stopped (row k) line ≡ node_lines timed nodes nodes (node_lists [] [] []) first (drop from text)
     nodes_stop e answered =
         sym (s.rest_is ∙ rw left (node_stop timed nodes (nodes - (v + 1)) v line (take v kinds) (take v capacities) (take v delays) (drop at text) kinds_read (sym (ap (node_at v text) e) ∙ answered)))
 

@@ -13,77 +13,75 @@ use Rattle.job.specs.Job.{Job, job_of}
 use Rattle.job.specs.declared.Terms.{Terms}
 use Rattle.text.specs.JobText.{Part, part, stopped, and_then, Counts, head_part, NodeLists, node_lists, node_lines, EdgeLists, edge_lists, edge_lines, NetLists, net_lists, net_lines, first_places, job_read, read_text}
 use Rattle.text.specs.ReadReplies.{Tables}
-use Rattle.text.specs.Steps.{edge_tables, edges_at, nodes_at, LinesPlace, nets_read_at, NetsEnd}
-use Rattle.text.specs.ReadSteps.{with_nets, nets_after, body_after_nodes, edges_nets_at, with_wires, wires_after, body_after_head, body_at, job_lines, job_at, JobPlace, CountsWithin, head_read_at, HeadReadPlace}
+use Rattle.text.specs.Steps.{row, Within, edge_tables, edges_at, nodes_at, LinesPlace, nets_read_at, NetsEnd}
+use Rattle.text.specs.ReadSteps.{with_nets, nets_after, body_after_nodes, edges_nets_at, with_wires, wires_after, body_after_head, body_at, job_at, CountsWithin, head_read_at, HeadReadPlace}
+use Rattle.core.specs.declared.result.Result.{Result}
+use Rattle.core.specs.declared.result.Result.TheVariants.{Ok, Err}
 use Rattle.text.specs.declared.head.HeadRead.{HeadRead}
-use Rattle.text.specs.declared.head.HeadRead.TheVariants as hr
-use Rattle.text.specs.declared.head.Lines.{Lines}
-use Rattle.text.specs.declared.head.Lines.TheVariants as ls
-use Rattle.text.specs.declared.nets.NetsRead.{NetsRead}
-use Rattle.text.specs.declared.nets.NetsRead.TheVariants as nr
-use Rattle.text.specs.declared.reader.JobLines.{JobLines}
+use Rattle.text.specs.declared.place.Place.{Place}
+use Rattle.text.specs.declared.place.LineRefusal.{LineRefusal}
 
 -- the nets as they stand in the tables, with the entry after the last net's
 with_nets_lem :
-    (n edges nets : ℕ) (r : NetsRead) (first_edges edge_targets sources first_sinks sinks criticalities : List ℕ) → NetsEnd nets r first_sinks
+    (n edges nets end : ℕ) (r : Result ℕ LineRefusal) (first_edges edge_targets sources first_sinks sinks criticalities : List ℕ) → NetsEnd nets r first_sinks
     → nets + 1 ≤ length first_sinks → sinks_most ≤ length sinks
-    → edges_nets_at n edges nets r first_edges edge_targets sources first_sinks sinks criticalities
-    ≡ with_nets (take (n + 1) first_edges) (take edges edge_targets) (nets_read_at nets r sources first_sinks sinks criticalities)
-with_nets_lem n edges nets (nr.Read count line) first_edges edge_targets sources first_sinks sinks criticalities end long room =
+    → edges_nets_at n edges nets end r first_edges edge_targets sources first_sinks sinks criticalities
+    ≡ with_nets (take (n + 1) first_edges) (take edges edge_targets) (nets_read_at nets end r sources first_sinks sinks criticalities)
+with_nets_lem n edges nets end (Ok count) first_edges edge_targets sources first_sinks sinks criticalities ended long room =
     let one : take (nets + 1) first_sinks ≡ take nets first_sinks ++ (count ∷ []) =
-    rw (add-one, take-suc first_sinks nets 0 (omega arith), end.1) refl in
-    rw (one, length-take-le count sinks (omega (arith, end.0)))
-with_nets_lem n edges nets (nr.Stopped k line) first_edges edge_targets sources first_sinks sinks criticalities end long room = refl
+    rw (add-one, take-suc first_sinks nets 0 (omega arith), ended.1) refl in
+    rw (one, length-take-le count sinks (omega (arith, ended.0)))
+with_nets_lem n edges nets end (Err k) first_edges edge_targets sources first_sinks sinks criticalities ended long room = refl
 
 -- edges, then nets
 pub edges-nets :
-    (timed : Bool) (kinds : List ℕ) (n edges nets line at next : ℕ) (text bs : List ℕ) (x : Lines) (r : NetsRead) (first_edges edge_targets sources first_sinks sinks criticalities : List ℕ)
-    → x ≡ ls.Read at next
+    (timed : Bool) (kinds : List ℕ) (n edges nets line end : ℕ) {place : Place} (text bs : List ℕ) (x : Result Place LineRefusal) (r : Result ℕ LineRefusal) (first_edges edge_targets sources first_sinks sinks criticalities : List ℕ)
+    → x ≡ Ok place
     → edges_at text x (take (n + 1) first_edges) (take edges edge_targets) ≡ edge_tables n (edge_lines n edges (edge_lists [] []) line bs)
-    → nets_read_at nets r sources first_sinks sinks criticalities ≡ net_lines (length (drop at text)) timed kinds n nets (net_lists [] [] [] []) next (drop at text)
+    → nets_read_at nets end r sources first_sinks sinks criticalities ≡ net_lines (length (drop place.at text)) timed kinds n nets (net_lists [] [] [] []) place.line (drop place.at text)
     → NetsEnd nets r first_sinks → nets + 1 ≤ length first_sinks → sinks_most ≤ length sinks
-    → edges_nets_at n edges nets r first_edges edge_targets sources first_sinks sinks criticalities ≡ body_after_nodes timed kinds n edges nets line bs
+    → edges_nets_at n edges nets end r first_edges edge_targets sources first_sinks sinks criticalities ≡ body_after_nodes timed kinds n edges nets line bs
 unfolding body_after_nodes
-edges-nets timed kinds n edges nets line at next text bs x r first_edges edge_targets sources first_sinks sinks criticalities is read nets_are end long room =
-    with_nets_lem n edges nets r first_edges edge_targets sources first_sinks sinks criticalities end long room
+edges-nets timed kinds n edges nets line end text bs x r first_edges edge_targets sources first_sinks sinks criticalities is read nets_are ended long room =
+    with_nets_lem n edges nets end r first_edges edge_targets sources first_sinks sinks criticalities ended long room
     ∙ ap (with_nets (take (n + 1) first_edges) (take edges edge_targets)) nets_are
-    ∙ ap (nets_after timed kinds n nets) (ap (λ (y : Lines). edges_at text y (take (n + 1) first_edges) (take edges edge_targets)) (sym is) ∙ read)
+    ∙ ap (nets_after timed kinds n nets) (ap (λ (y : Result Place LineRefusal). edges_at text y (take (n + 1) first_edges) (take edges edge_targets)) (sym is) ∙ read)
 
 -- a faulty E line
 pub edges_stop :
-    (timed : Bool) (kinds : List ℕ) (n edges nets line k at : ℕ) (text bs : List ℕ) (x : Lines) (first_edges edge_targets : List ℕ) → x ≡ ls.Stopped k at
+    (timed : Bool) (kinds : List ℕ) (n edges nets line : ℕ) {e : LineRefusal} (text bs : List ℕ) (x : Result Place LineRefusal) (first_edges edge_targets : List ℕ) → x ≡ Err e
     → edges_at text x first_edges edge_targets ≡ edge_tables n (edge_lines n edges (edge_lists [] []) line bs)
-    → stopped k at ≡ body_after_nodes timed kinds n edges nets line bs
+    → stopped (row e.fault) e.line ≡ body_after_nodes timed kinds n edges nets line bs
 unfolding body_after_nodes
-edges_stop timed kinds n edges nets line k at text bs x first_edges edge_targets is read =
-    ap (nets_after timed kinds n nets) (ap (λ (y : Lines). edges_at text y first_edges edge_targets) (sym is) ∙ read)
+edges_stop timed kinds n edges nets line text bs x first_edges edge_targets is read =
+    ap (nets_after timed kinds n nets) (ap (λ (y : Result Place LineRefusal). edges_at text y first_edges edge_targets) (sym is) ∙ read)
 
 with_wires_lem :
-    (n edges nets : ℕ) (r : NetsRead) (kinds capacities first_edges edge_targets sources first_sinks sinks delays criticalities : List ℕ)
-    → body_at n edges nets r kinds capacities first_edges edge_targets sources first_sinks sinks delays criticalities
-    ≡ with_wires (node_lists (take n kinds) (take n capacities) (take n delays)) (edges_nets_at n edges nets r first_edges edge_targets sources first_sinks sinks criticalities)
-with_wires_lem n edges nets (nr.Read count line) kinds capacities first_edges edge_targets sources first_sinks sinks delays criticalities = refl
-with_wires_lem n edges nets (nr.Stopped k line) kinds capacities first_edges edge_targets sources first_sinks sinks delays criticalities = refl
+    (n edges nets end : ℕ) (r : Result ℕ LineRefusal) (kinds capacities first_edges edge_targets sources first_sinks sinks delays criticalities : List ℕ)
+    → body_at n edges nets end r kinds capacities first_edges edge_targets sources first_sinks sinks delays criticalities
+    ≡ with_wires (node_lists (take n kinds) (take n capacities) (take n delays)) (edges_nets_at n edges nets end r first_edges edge_targets sources first_sinks sinks criticalities)
+with_wires_lem n edges nets end (Ok count) kinds capacities first_edges edge_targets sources first_sinks sinks delays criticalities = refl
+with_wires_lem n edges nets end (Err k) kinds capacities first_edges edge_targets sources first_sinks sinks delays criticalities = refl
 
 -- nodes, then edges and nets
 pub nodes-wires :
-    (timed : Bool) (n edges nets line at next : ℕ) (text bs : List ℕ) (x : Lines) (r : NetsRead) (kinds capacities first_edges edge_targets sources first_sinks sinks delays criticalities : List ℕ)
-    → x ≡ ls.Read at next → nodes_at text x (take n kinds) (take n capacities) (take n delays) ≡ node_lines timed n n (node_lists [] [] []) line bs
-    → edges_nets_at n edges nets r first_edges edge_targets sources first_sinks sinks criticalities ≡ body_after_nodes timed (take n kinds) n edges nets next (drop at text)
-    → body_at n edges nets r kinds capacities first_edges edge_targets sources first_sinks sinks delays criticalities ≡ body_after_head timed n edges nets line bs
+    (timed : Bool) (n edges nets line end : ℕ) {place : Place} (text bs : List ℕ) (x : Result Place LineRefusal) (r : Result ℕ LineRefusal) (kinds capacities first_edges edge_targets sources first_sinks sinks delays criticalities : List ℕ)
+    → x ≡ Ok place → nodes_at text x (take n kinds) (take n capacities) (take n delays) ≡ node_lines timed n n (node_lists [] [] []) line bs
+    → edges_nets_at n edges nets end r first_edges edge_targets sources first_sinks sinks criticalities ≡ body_after_nodes timed (take n kinds) n edges nets place.line (drop place.at text)
+    → body_at n edges nets end r kinds capacities first_edges edge_targets sources first_sinks sinks delays criticalities ≡ body_after_head timed n edges nets line bs
 unfolding body_after_head
-nodes-wires timed n edges nets line at next text bs x r kinds capacities first_edges edge_targets sources first_sinks sinks delays criticalities is read wires =
-    with_wires_lem n edges nets r kinds capacities first_edges edge_targets sources first_sinks sinks delays criticalities
+nodes-wires timed n edges nets line end text bs x r kinds capacities first_edges edge_targets sources first_sinks sinks delays criticalities is read wires =
+    with_wires_lem n edges nets end r kinds capacities first_edges edge_targets sources first_sinks sinks delays criticalities
     ∙ ap (with_wires (node_lists (take n kinds) (take n capacities) (take n delays))) wires
-    ∙ ap (wires_after timed n edges nets) (ap (λ (y : Lines). nodes_at text y (take n kinds) (take n capacities) (take n delays)) (sym is) ∙ read)
+    ∙ ap (wires_after timed n edges nets) (ap (λ (y : Result Place LineRefusal). nodes_at text y (take n kinds) (take n capacities) (take n delays)) (sym is) ∙ read)
 
 -- a faulty N line
 pub nodes_stop :
-    (timed : Bool) (n edges nets line k at : ℕ) (text bs : List ℕ) (x : Lines) (kinds capacities delays : List ℕ) → x ≡ ls.Stopped k at
-    → nodes_at text x kinds capacities delays ≡ node_lines timed n n (node_lists [] [] []) line bs → stopped k at ≡ body_after_head timed n edges nets line bs
+    (timed : Bool) (n edges nets line : ℕ) {e : LineRefusal} (text bs : List ℕ) (x : Result Place LineRefusal) (kinds capacities delays : List ℕ) → x ≡ Err e
+    → nodes_at text x kinds capacities delays ≡ node_lines timed n n (node_lists [] [] []) line bs → stopped (row e.fault) e.line ≡ body_after_head timed n edges nets line bs
 unfolding body_after_head
-nodes_stop timed n edges nets line k at text bs x kinds capacities delays is read =
-    ap (wires_after timed n edges nets) (ap (λ (y : Lines). nodes_at text y kinds capacities delays) (sym is) ∙ read)
+nodes_stop timed n edges nets line text bs x kinds capacities delays is read =
+    ap (wires_after timed n edges nets) (ap (λ (y : Result Place LineRefusal). nodes_at text y kinds capacities delays) (sym is) ∙ read)
 
 -- the job of the tables that were read
 abbrev job_after : Terms → Part Tables → Part Job
@@ -119,51 +117,45 @@ module _ (c : Counts) where
   node_stage (stopped k at) = refl
 
 -- the lines before the nodes, then those from the nodes on
-module _ (n edges nets : ℕ) (terms : Terms) (at line : ℕ) (text : List ℕ) (x : HeadRead) (kinds capacities first_edges edge_targets sources first_sinks sinks delays criticalities : List ℕ) (is : x ≡ hr.Counts n edges nets terms at line) (read : head_read_at text x ≡ head_part text) where
-  text_body :
-      (r : NetsRead)
-      → body_at n edges nets r kinds capacities first_edges edge_targets sources first_sinks sinks delays criticalities ≡ body_after_head terms.timed n edges nets line (drop at text)
-      → job_after terms (body_at n edges nets r kinds capacities first_edges edge_targets sources first_sinks sinks delays criticalities) ≡ read_text text
-  unfolding read_text body_after_head
-  text_body r body =
-      ap (job_after terms) body
-      ∙ node_stage (record { nodes = n; edges = edges; nets = nets; terms = terms }) (node_lines terms.timed n n (node_lists [] [] []) line (drop at text))
-      ∙ rw (← read, is)
+module _ (text : List ℕ) {x : Result HeadRead LineRefusal} {h : HeadRead} (is : x ≡ Ok h) (read : head_read_at text x ≡ head_part text) (end : ℕ) (kinds capacities first_edges edge_targets sources first_sinks sinks delays criticalities : List ℕ) where
+  abbrev body : Result ℕ LineRefusal → Part Tables
+  body r = body_at h.counts.nodes h.counts.edges h.counts.nets end r kinds capacities first_edges edge_targets sources first_sinks sinks delays criticalities
 
-  job_body :
-      (r : NetsRead)
-      → job_at (job_lines n edges nets terms r) kinds capacities first_edges edge_targets sources first_sinks sinks delays criticalities
-      ≡ job_after terms (body_at n edges nets r kinds capacities first_edges edge_targets sources first_sinks sinks delays criticalities)
-  job_body (nr.Read count end) = refl
-  job_body (nr.Stopped k end) = refl
+  module _
+      (r : Result ℕ LineRefusal)
+      (body-is : body r ≡ body_after_head h.counts.terms.timed h.counts.nodes h.counts.edges h.counts.nets h.place.line (drop h.place.at text)) where
+    text_body : job_after h.counts.terms (body r) ≡ read_text text
+    unfolding read_text body_after_head
+    text_body =
+        ap (job_after h.counts.terms) body-is
+        ∙ node_stage (record { nodes = h.counts.nodes; edges = h.counts.edges; nets = h.counts.nets; terms = h.counts.terms })
+        (node_lines h.counts.terms.timed h.counts.nodes h.counts.nodes (node_lists [] [] []) h.place.line (drop h.place.at text))
+        ∙ rw (← read, is)
 
-  pub text_read :
-      (r : NetsRead) (j : JobLines) → j ≡ job_lines n edges nets terms r
-      → body_at n edges nets r kinds capacities first_edges edge_targets sources first_sinks sinks delays criticalities ≡ body_after_head terms.timed n edges nets line (drop at text)
-      → job_at j kinds capacities first_edges edge_targets sources first_sinks sinks delays criticalities ≡ read_text text
-  text_read r j e body =
-      ap (λ (y : JobLines). job_at y kinds capacities first_edges edge_targets sources first_sinks sinks delays criticalities) e ∙ job_body r ∙ text_body r body
+    pub text_read :
+        {count : ℕ} → r ≡ Ok count
+        → job_at end (Ok (record { nodes = h.counts.nodes; edges = h.counts.edges; nets = h.counts.nets; sinks = count; terms = h.counts.terms }))
+        kinds capacities first_edges edge_targets sources first_sinks sinks delays criticalities ≡ read_text text
+    text_read e = ap (λ (y : Result ℕ LineRefusal). job_after h.counts.terms (body y)) (sym e) ∙ text_body
 
--- the counts of a text that was read are within their bounds
-module _ (n edges nets : ℕ) (terms : Terms) (first_sinks : List ℕ) (within : CountsWithin n edges nets) where
-  lines_place : (r : NetsRead) → NetsEnd nets r first_sinks → JobPlace (job_lines n edges nets terms r)
-  lines_place (nr.Read count line) end = (within, end.0)
-  lines_place (nr.Stopped k line) end = tt
+    pub text_body_stop : {e : LineRefusal} → r ≡ Err e → stopped (row e.fault) e.line ≡ read_text text
+    text_body_stop e = ap (λ (y : Result ℕ LineRefusal). job_after h.counts.terms (body y)) (sym e) ∙ text_body
 
-  pub job_place : (r : NetsRead) (j : JobLines) → j ≡ job_lines n edges nets terms r → NetsEnd nets r first_sinks → JobPlace j
-  job_place r j e end = subst JobPlace (sym e) (lines_place r end)
+-- the sinks of a text that was read are within their bound
+pub few_sinks : (nets : ℕ) (first_sinks : List ℕ) {r : Result ℕ LineRefusal} {count : ℕ} → r ≡ Ok count → NetsEnd nets r first_sinks → count ≤ sinks_most
+few_sinks nets first_sinks {r} {count} is ended = (subst (λ (y : Result ℕ LineRefusal). NetsEnd nets y first_sinks) is ended).0
 
 -- a faulty line before the nodes
-pub text_stop : (k line : ℕ) (text : List ℕ) (x : HeadRead) → x ≡ hr.Stopped k line → head_read_at text x ≡ head_part text → stopped k line ≡ read_text text
+pub text_stop : (text : List ℕ) {x : Result HeadRead LineRefusal} {e : LineRefusal} → x ≡ Err e → head_read_at text x ≡ head_part text → stopped (row e.fault) e.line ≡ read_text text
 unfolding read_text
-text_stop k line text x is read = rw (← read, is)
+text_stop text is read = rw (← read, is)
 
 -- where a part of the text ends
-pub read_place : (text : List ℕ) (x : Lines) (at line : ℕ) → x ≡ ls.Read at line → LinesPlace text x → (at ≤ length text) × (line ≤ at + 1)
-read_place text x at line is place = rw is at place
+pub read_place : (text : List ℕ) {x : Result Place LineRefusal} {p : Place} → x ≡ Ok p → LinesPlace text x → Within text p
+read_place text is place = rw is at place
 
 -- the counts, and where the nodes begin
 pub body_place :
-    (text : List ℕ) (x : HeadRead) (n edges nets : ℕ) (terms : Terms) (at line : ℕ) → x ≡ hr.Counts n edges nets terms at line → HeadReadPlace text x
-    → CountsWithin n edges nets × (at ≤ length text) × (line ≤ at + 1)
-body_place text x n edges nets terms at line is place = rw is at place
+    (text : List ℕ) {x : Result HeadRead LineRefusal} {h : HeadRead} → x ≡ Ok h → HeadReadPlace text x
+    → CountsWithin h.counts.nodes h.counts.edges h.counts.nets × Within text h.place
+body_place text is place = rw is at place

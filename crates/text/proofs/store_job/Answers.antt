@@ -16,7 +16,7 @@ returns-then-table-ge1 c =
     let d = c.if_timed-delays_due in
     let t = c.if_timed-criticalities_due in
     let s = c.lowest_short-table in
-    store_short _ _ _ _ c.args.terms _ _ _ _ _ _ _ _ _ r.room_for_all r.counts_within.0 r.counts_within.1 (lent (goal.at.returns-then-table-ge1 c).Start) d.result t.result d.ensures t.ensures
+    store_short _ _ _ _ c.args.counts.terms _ _ _ _ _ _ _ _ _ r.room_for_all r.counts_within.0 r.counts_within.1 (lent (goal.at.returns-then-table-ge1 c).Start) d.result t.result d.ensures t.ensures
     s.result s.ensures c.if-table-ge1.true
 
 pub returns-then-exceeds : goal.returns-then-exceeds
@@ -25,7 +25,7 @@ returns-then-exceeds c =
     let d = c.if_timed-delays_due in
     let t = c.if_timed-criticalities_due in
     let s = c.lowest_short-table in
-    store_large _ _ _ _ c.args.terms _ _ _ _ _ _ _ _ _ r.room_for_all r.counts_within.0 r.counts_within.1 (lent (goal.at.returns-then-exceeds c).Start) d.result t.result d.ensures t.ensures
+    store_large _ _ _ _ c.args.counts.terms _ _ _ _ _ _ _ _ _ r.room_for_all r.counts_within.0 r.counts_within.1 (lent (goal.at.returns-then-exceeds c).Start) d.result t.result d.ensures t.ensures
     s.result s.ensures c.if-table-ge1.false c.exceeds.ensures c.if-exceeds.true
 
 pub copy_block-requires : goal.copy_block-requires
@@ -37,7 +37,7 @@ copy_block-requires c =
     let room = r.room_for_all in
     let within = r.counts_within.0 in
     let long =
-    store_room _ _ _ _ c.args.terms _ _ _ _ _ _ _ _ _ r.room_for_all r.counts_within.0 r.counts_within.1 (lent (goal.at.copy_block-requires c).Start) d.result t.result d.ensures t.ensures
+    store_room _ _ _ _ c.args.counts.terms _ _ _ _ _ _ _ _ _ r.room_for_all r.counts_within.0 r.counts_within.1 (lent (goal.at.copy_block-requires c).Start) d.result t.result d.ensures t.ensures
     s.result s.ensures c.if-table-ge1.false in (
       record { there = omega (arith, room.kinds-long, within.nodes_most_lem); room = long.kinds-long },
       record { there = omega (arith, room.capacities-long, within.nodes_most_lem); room = long.capacities-long },
@@ -54,7 +54,7 @@ copy_nets-requires c =
     let room = r.room_for_all in
     let within = r.counts_within.0 in
     let long =
-    store_room _ _ _ _ c.args.terms _ _ _ _ _ _ _ _ _ r.room_for_all r.counts_within.0 r.counts_within.1 (lent (goal.at.copy_nets-requires c).Start) d.result t.result d.ensures t.ensures
+    store_room _ _ _ _ c.args.counts.terms _ _ _ _ _ _ _ _ _ r.room_for_all r.counts_within.0 r.counts_within.1 (lent (goal.at.copy_nets-requires c).Start) d.result t.result d.ensures t.ensures
     s.result s.ensures c.if-table-ge1.false in (
       record { there = omega (arith, room.net-room.sources-long, within.nets_most_lem); room = long.sources-long },
       record { there = omega (arith, room.net-room.firsts-long, within.nets_most_lem); room = long.first_sinks-long },
@@ -69,10 +69,10 @@ copy_times-requires c =
     let s = c.lowest_short-table in
     let room = r.room_for_all in
     let within = r.counts_within.0 in
-    let delays = due-most c.args.terms.timed d.ensures in
-    let tenths = due-most c.args.terms.timed t.ensures in
+    let delays = due-most c.args.counts.terms.timed d.ensures in
+    let tenths = due-most c.args.counts.terms.timed t.ensures in
     let long =
-    store_times _ _ _ _ c.args.terms _ _ _ _ _ _ _ _ _ r.room_for_all r.counts_within.0 r.counts_within.1 (lent (goal.at.copy_times-requires c).Start) d.result t.result d.ensures t.ensures
+    store_times _ _ _ _ c.args.counts.terms _ _ _ _ _ _ _ _ _ r.room_for_all r.counts_within.0 r.counts_within.1 (lent (goal.at.copy_times-requires c).Start) d.result t.result d.ensures t.ensures
     s.result s.ensures c.if-table-ge1.false in (
       record { there = omega (arith, delays, room.delays-long, within.nodes_most_lem); room = long.delays-long },
       record { there = omega (arith, tenths, room.net-room.criticalities-long, r.counts_within.1); room = long.criticalities-long },
@@ -90,7 +90,7 @@ returns c =
     let b = c.copy_block.ensures in
     let n = c.copy_nets.ensures in
     let w = c.copy_times.ensures in
-    store_done _ _ _ _ c.args.terms _ _ _ _ _ _ _ _ _ r.room_for_all r.counts_within.0 r.counts_within.1 (lent (goal.at.returns c).Start) d.result t.result d.ensures t.ensures
+    store_done _ _ _ _ c.args.counts.terms _ _ _ _ _ _ _ _ _ r.room_for_all r.counts_within.0 r.counts_within.1 (lent (goal.at.returns c).Start) d.result t.result d.ensures t.ensures
     s.result s.ensures c.if-table-ge1.false
     (tables_of k.kind k.capacity k.first_edge k.edge_target m.source m.first_sink m.sink o.delay o.criticality)
     c.exceeds.ensures c.if-exceeds.false b.0 b.1 b.2 b.3 n.0 n.1 n.2 w.0 w.1

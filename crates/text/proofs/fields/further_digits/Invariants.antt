@@ -1,7 +1,5 @@
 -- `fields::further_digits` meets its contract. The loop's invariant: the digits that are left go on from the number so far.
 -- Assumes nothing.
-use Prim.Native.Nat.{◌-◌}
-use lib.ListN.{length}
 use Rattle.text.proofs.FieldLaws.{Digits}
 use Rattle.text.proofs.fields.further_digits.Given as goal
 
@@ -9,4 +7,4 @@ abbrev pub invariant-loop-left : goal.invariant-loop-left
 invariant-loop-left l = Digits l.text l.at l.first l.value l.next l.left
 
 abbrev pub decreases-loop-left : goal.decreases-loop-left
-decreases-loop-left l = length l.text - l.next
+decreases-loop-left l = l.left

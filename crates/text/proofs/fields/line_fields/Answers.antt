@@ -1,10 +1,10 @@
 -- `fields::line_fields` meets its contract: the letter, then the fields.
 -- Assumes nothing.
 use mathlib.Core.Bool.{not}
-use Rattle.std.proofs.Common.{ap}
 use mathlib.Core.Path.{sym}
 use native.Mathlib.Omega.{arith}
 use lib.ListN.{drop}
+use Rattle.std.proofs.Common.{ap}
 use Rattle.search.proofs.KeptLaws.{refused, passed}
 use Rattle.text.proofs.FieldLaws.{begins-within}
 use Rattle.text.proofs.JudgedLaws.{line_other, line-is}
@@ -21,4 +21,7 @@ overflow_add-at c =
 
 pub returns : goal.returns
 returns c =
-    let a = c.args in record { value = sym (line-is a.letter a.count a.at a.text.now (passed c.byte_is.ensures (ap not c.if-not-byte_is.false)) (c.fields_from.ensures.value c.requires)); fields_place = c.fields_from.ensures.fields_place }
+    let a = c.args in record {
+      value = sym (line-is a.letter a.count a.at a.text.now (passed c.byte_is.ensures (ap not c.if-not-byte_is.false)) c.read_fields.ensures.value);
+      fields_place = c.read_fields.ensures.fields_place;
+    }

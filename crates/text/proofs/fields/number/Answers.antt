@@ -6,6 +6,7 @@ use mathlib.Core.Bool.{true}
 use mathlib.Core.Path.{◌≡◌, sym}
 use native.Mathlib.Omega.{arith}
 use lib.ListN.{get_or}
+use Rattle.core.specs.declared.option.Option.TheVariants.{Some}
 use Rattle.std.proofs.Common.{rules}
 use Rattle.search.proofs.KeptLaws.{refused, passed}
 use Rattle.text.specs.Decimal.{is_digit}
@@ -37,6 +38,6 @@ further_digits-requires c = (search rules, omega (arith, digit_most _ (digit c))
 pub returns : goal.returns
 returns c =
     let p =
-    field-onward c.args.at c.args.text.now c.further_digits.result (c.further_digits.ensures.value, c.further_digits.ensures.field_place)
+    field-onward c.args.at c.args.text.now (Some c.further_digits.result) (c.further_digits.ensures.value, c.further_digits.ensures.field_place)
     (field-digits c.args.at c.args.text.now (search rules) (search rules) (digit (goal.at.returns c).Else-not-is_digit)) in
     record { value = p.0; field_place = p.1 }

@@ -1,6 +1,5 @@
 -- `fields::read_fields` meets its contract. The loop's invariant: the reader carries its text, and the first k fields are read up to its place.
 -- Assumes nothing.
-use Prim.Native.Nat.{◌-◌, ◌≤◌}
 use mathlib.Core.Path.{◌≡◌}
 use Rattle.text.proofs.FieldLaws.{SoFar}
 use Rattle.text.proofs.fields.read_fields.Given as goal
@@ -8,9 +7,5 @@ use Rattle.text.proofs.fields.read_fields.Given as goal
 abbrev pub invariant-loop-k : goal.invariant-loop-k
 invariant-loop-k l = record {
   text : l.reader.text.now ≡ l.r.text.now;
-  some : l.k ≤ l.count;
-  so_far : SoFar l.count l.k l.r.at l.reader.at l.r.text.now l.line;
+  so_far : SoFar l.count l.k l.r.at l.reader.at l.r.text.now l.values;
 }
-
-abbrev pub decreases-loop-k : goal.decreases-loop-k
-decreases-loop-k l = l.count - l.k

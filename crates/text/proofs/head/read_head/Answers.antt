@@ -2,27 +2,28 @@
 -- Assumes nothing.
 use native.Mathlib.Omega.{arith}
 use Rattle.text.proofs.head.HeadLineLaws.{head_refused, head_counts, head_read_on, head_stopped, head_place}
-use Rattle.text.proofs.OptionalLineLaws.{read_place}
+use Rattle.text.proofs.OptionalLineLaws.{read_place, passed_on}
 use Rattle.text.proofs.head.read_head.Goals as goal
 
 pub read_terms-requires : goal.read_terms-requires
 read_terms-requires c =
-    let head = c.head_line in
-    let place = head_place c.args.text.now head.result c.in-Counts.is head.ensures.head_place in
+    let place = head_place c.args.text.now c.in-Ok.is c.head_line.ensures.head_place in
     (place.1, omega (arith, place.0))
 
-pub returns-in-Read : goal.returns-in-Read
-returns-in-Read c =
-    let asked = c.read_terms in
-    let head = c.head_line in
+pub returns-in-Err : goal.returns-in-Err
+returns-in-Err c = record { value = head_refused c.args.text.now c.head_line.ensures.value c.in-Err.is; head_read_place = tt }
+
+pub returns-in_err-read : goal.returns-in_err-read
+returns-in_err-read c =
+    rw (passed_on c.from_residual.result c.from_residual.ensures.1)
+    (record { value = head_stopped c.args.text.now c.head_line.ensures.value c.in-Ok.is c.read_terms.ensures.value (c.in_err-read.was); head_read_place = tt })
+
+pub returns : goal.returns
+returns c =
     let text = c.args.text.now in
-    let is = c.in-Counts.is in
-    let place = read_place text asked.result c.in-Read.is asked.ensures.terms_place in record { value = head_read_on text head.result head.ensures.value is asked.result asked.ensures.value c.in-Read.is; head_read_place = (head_counts text head.result head.ensures.value is, place.0, place.1) }
-
-pub returns-in-Stopped : goal.returns-in-Stopped
-returns-in-Stopped c =
-    let asked = c.read_terms in
-    let head = c.head_line in record { value = head_stopped _ head.result head.ensures.value c.in-Counts.is asked.result asked.ensures.value c.in-Stopped.is; head_read_place = tt }
-
-pub returns-in-Refused : goal.returns-in-Refused
-returns-in-Refused c = let head = c.head_line in record { value = head_refused _ head.result head.ensures.value c.in-Refused.is; head_read_place = tt }
+    let is = c.in-Ok.is in
+    let place = read_place text (c.in_ok-read.was) c.read_terms.ensures.terms_place in
+    record {
+      value = head_read_on text c.head_line.ensures.value is c.read_terms.ensures.value (c.in_ok-read.was);
+      head_read_place = (head_counts text c.head_line.ensures.value is, place);
+    }

@@ -8,26 +8,28 @@ use lib.ListN.{drop}
 use Rattle.job.specs.Tables.{source_kind}
 use Rattle.text.specs.JobText.{Reading, source_line, of_kind}
 use Rattle.text.proofs.NetLineLaws.{pin_reading, pin_refused, pin_place}
+use Rattle.text.proofs.OptionalLineLaws.{passed_on}
 use Rattle.text.proofs.nets.add_source.Goals.{Start}
 use Rattle.text.proofs.nets.add_source.Goals as goal
 
 abbrev reading : Start → Reading (List ℕ)
 reading s = let a = s.args in of_kind source_kind a.kind.now (source_line a.nodes a.nets a.c.nets (drop a.c.at a.text.now))
 
-pub bounds-seen-node : goal.bounds-seen-node
-bounds-seen-node c =
+pub bounds-seen-pin : goal.bounds-seen-pin
+bounds-seen-pin c =
     let a = c.args in
-    omega (arith, (pin_place a.nodes a.c.at a.text.now c.in-Pin.is c.source_line.ensures.pin_place).1)
+    omega (arith, (pin_place a.nodes a.c.at a.text.now c.in_ok-pin.was c.source_line.ensures.pin_place).1)
 
-pub returns-in-Pin : goal.returns-in-Pin
-returns-in-Pin c =
+pub returns : goal.returns
+returns c =
     let a = c.args in
-    let is = c.in-Pin.is in
+    let is = c.in_ok-pin.was in
     let place = pin_place a.nodes a.c.at a.text.now is c.source_line.ensures.pin_place in
-    let same = pin_reading a.c.nets a.text.now {r = reading (goal.at.returns-in-Pin c).Start} c.source_line.ensures.value is in
+    let same = pin_reading a.c.nets a.text.now {r = reading (goal.at.returns c).Start} c.source_line.ensures.value is in
     (_, same, place.1, place.0, refl, refl, refl, refl, refl, refl, refl)
 
-pub returns-in-Refused : goal.returns-in-Refused
-returns-in-Refused c =
+pub returns-in_err-pin : goal.returns-in_err-pin
+returns-in_err-pin c =
     let a = c.args in
-    pin_refused a.c.nets a.text.now {r = reading (goal.at.returns-in-Refused c).Start} c.source_line.ensures.value c.in-Refused.is
+    rw (passed_on c.from_residual.result c.from_residual.ensures.1)
+    (pin_refused a.c.nets a.text.now {r = reading (goal.at.returns-in_err-pin c).Start} c.source_line.ensures.value c.in_err-pin.was)

@@ -25,14 +25,14 @@ returns-then-nets-first c =
     let a = c.args in
     let n = c.one_of_two-numbers.ensures in
     let v = c.line_fields.ensures.value in
-    record { by_index = λ pins m. of_refused sink_kind a.kind.now (sink-net a.timed _ _ _ a.at _ a.text.now n v c.in-Fields.is refl pins c.if-nets-first.true); sink_place = tt }
+    record { by_index = λ pins m. of_refused sink_kind a.kind.now (sink-net a.timed _ _ _ a.at _ a.text.now n v c.in-Some.is refl pins c.if-nets-first.true); sink_place = tt }
 
 pub returns-then-nodes-second : goal.returns-then-nodes-second
 returns-then-nodes-second c =
     let a = c.args in
     let n = c.one_of_two-numbers.ensures in
     let v = c.line_fields.ensures.value in
-    record { by_index = λ pins m. of_refused sink_kind a.kind.now (sink-node a.timed _ _ _ a.at _ a.text.now n v c.in-Fields.is refl pins c.if-nodes-second.true); sink_place = tt }
+    record { by_index = λ pins m. of_refused sink_kind a.kind.now (sink-node a.timed _ _ _ a.at _ a.text.now n v c.in-Some.is refl pins c.if-nodes-second.true); sink_place = tt }
 
 pub returns-then-criticality-gt-CRITICALITY_MOST : goal.returns-then-criticality-gt-CRITICALITY_MOST
 returns-then-criticality-gt-CRITICALITY_MOST c =
@@ -40,7 +40,7 @@ returns-then-criticality-gt-CRITICALITY_MOST c =
     let n = c.one_of_two-numbers.ensures in
     let v = c.line_fields.ensures.value in
     let t = c.one_of_two-criticality.ensures in
-    record { by_index = λ pins m. of_refused sink_kind a.kind.now (sink_tenths a.timed _ _ _ a.at _ a.text.now n v c.in-Fields.is t pins c.if-criticality-gt-CRITICALITY_MOST.true); sink_place = tt }
+    record { by_index = λ pins m. of_refused sink_kind a.kind.now (sink_tenths a.timed _ _ _ a.at _ a.text.now n v c.in-Some.is t pins c.if-criticality-gt-CRITICALITY_MOST.true); sink_place = tt }
 
 pub returns-then-first-i : goal.returns-then-first-i
 returns-then-first-i c =
@@ -49,7 +49,7 @@ returns-then-first-i c =
     let v = c.line_fields.ensures.value in
     let t = c.one_of_two-criticality.ensures in
     record {
-      by_index = λ pins m. of_refused sink_kind a.kind.now (sink-order a.timed _ _ _ a.at _ a.text.now n v c.in-Fields.is t
+      by_index = λ pins m. of_refused sink_kind a.kind.now (sink-order a.timed _ _ _ a.at _ a.text.now n v c.in-Some.is t
           c.if-nets-first.false c.if-nodes-second.false c.if-criticality-gt-CRITICALITY_MOST.false pins c.if-first-i.true);
       sink_place = tt;
     }
@@ -61,7 +61,7 @@ returns-then-seen-second c =
     let v = c.line_fields.ensures.value in
     let t = c.one_of_two-criticality.ensures in
     record {
-      by_index = λ pins m. of_refused sink_kind a.kind.now (sink-seen a.timed _ _ _ a.at _ a.text.now n v c.in-Fields.is t
+      by_index = λ pins m. of_refused sink_kind a.kind.now (sink-seen a.timed _ _ _ a.at _ a.text.now n v c.in-Some.is t
           c.if-nets-first.false c.if-nodes-second.false c.if-criticality-gt-CRITICALITY_MOST.false a.stamp a.seen.now pins m c.if-seen-second.true);
       sink_place = tt;
     }
@@ -73,7 +73,7 @@ returns-then-count-ge-SINKS_MOST c =
     let v = c.line_fields.ensures.value in
     let t = c.one_of_two-criticality.ensures in
     record {
-      by_index = λ pins m. of_refused sink_kind a.kind.now (sink_many a.timed _ _ _ a.at _ a.text.now n v c.in-Fields.is t
+      by_index = λ pins m. of_refused sink_kind a.kind.now (sink_many a.timed _ _ _ a.at _ a.text.now n v c.in-Some.is t
           c.if-nets-first.false c.if-nodes-second.false c.if-criticality-gt-CRITICALITY_MOST.false pins c.if-count-ge-SINKS_MOST.true);
       sink_place = tt;
     }
@@ -85,7 +85,7 @@ returns-then-not-sink_kind c =
     let v = c.line_fields.ensures.value in
     let t = c.one_of_two-criticality.ensures in
     record {
-      by_index = λ pins m. of_none sink_kind a.kind.now (sink_pin a.timed _ _ _ a.at _ a.text.now n v c.in-Fields.is t
+      by_index = λ pins m. of_none sink_kind a.kind.now (sink_pin a.timed _ _ _ a.at _ a.text.now n v c.in-Some.is t
           c.if-nets-first.false c.if-nodes-second.false c.if-criticality-gt-CRITICALITY_MOST.false a.stamp a.seen.now pins m c.if-first-i.false c.if-seen-second.false c.if-count-ge-SINKS_MOST.false) (refused c.sink_kind.ensures (ap not c.if-not-sink_kind.true));
       sink_place = tt;
     }
@@ -97,7 +97,7 @@ returns c =
     let v = c.line_fields.ensures.value in
     let t = c.one_of_two-criticality.ensures in
     record {
-      by_index = λ pins m. of_one sink_kind a.kind.now (sink_pin a.timed _ _ _ a.at _ a.text.now n v c.in-Fields.is t
+      by_index = λ pins m. of_one sink_kind a.kind.now (sink_pin a.timed _ _ _ a.at _ a.text.now n v c.in-Some.is t
           c.if-nets-first.false c.if-nodes-second.false c.if-criticality-gt-CRITICALITY_MOST.false a.stamp a.seen.now pins m c.if-first-i.false c.if-seen-second.false c.if-count-ge-SINKS_MOST.false) (passed c.sink_kind.ensures (ap not c.if-not-sink_kind.false));
-      sink_place = (line_place (a.at + 1) a.text.now c.in-Fields.is c.line_fields.ensures.fields_place, c.if-nodes-second.false);
+      sink_place = (line_place (a.at + 1) a.text.now c.in-Some.is c.line_fields.ensures.fields_place, c.if-nodes-second.false);
     }

@@ -15,31 +15,31 @@ returns-in_default c =
 
 pub returns-then-nets-first : goal.returns-then-nets-first
 returns-then-nets-first c =
-    let a = c.args in record { value = of_refused source_kind a.kind.now (source-net _ _ _ a.at a.text.now _ c.line_fields.ensures.value c.in-Fields.is c.if-nets-first.true); pin_place = tt }
+    let a = c.args in record { value = of_refused source_kind a.kind.now (source-net _ _ _ a.at a.text.now _ c.line_fields.ensures.value c.in-Some.is c.if-nets-first.true); pin_place = tt }
 
 pub returns-then-nodes-second : goal.returns-then-nodes-second
 returns-then-nodes-second c =
-    let a = c.args in record { value = of_refused source_kind a.kind.now (source-node _ _ _ a.at a.text.now _ c.line_fields.ensures.value c.in-Fields.is c.if-nodes-second.true); pin_place = tt }
+    let a = c.args in record { value = of_refused source_kind a.kind.now (source-node _ _ _ a.at a.text.now _ c.line_fields.ensures.value c.in-Some.is c.if-nodes-second.true); pin_place = tt }
 
 pub returns-then-first-i : goal.returns-then-first-i
 returns-then-first-i c =
     let a = c.args in record {
       value = of_refused source_kind a.kind.now
-          (source-order _ _ _ a.at a.text.now _ c.line_fields.ensures.value c.in-Fields.is c.if-nets-first.false c.if-nodes-second.false c.if-first-i.true);
+          (source-order _ _ _ a.at a.text.now _ c.line_fields.ensures.value c.in-Some.is c.if-nets-first.false c.if-nodes-second.false c.if-first-i.true);
       pin_place = tt;
     }
 
 pub returns-then-not-source_kind : goal.returns-then-not-source_kind
 returns-then-not-source_kind c =
-    let a = c.args in record { value = of_none source_kind a.kind.now (source_pin _ _ _ a.at a.text.now _ c.line_fields.ensures.value c.in-Fields.is c.if-nets-first.false c.if-nodes-second.false c.if-first-i.false) (refused c.source_kind.ensures (ap not c.if-not-source_kind.true)); pin_place = tt }
+    let a = c.args in record { value = of_none source_kind a.kind.now (source_pin _ _ _ a.at a.text.now _ c.line_fields.ensures.value c.in-Some.is c.if-nets-first.false c.if-nodes-second.false c.if-first-i.false) (refused c.source_kind.ensures (ap not c.if-not-source_kind.true)); pin_place = tt }
 
 pub returns : goal.returns
 returns c =
     let a = c.args in record {
-      value = of_one source_kind a.kind.now (source_pin _ _ _ a.at a.text.now _ c.line_fields.ensures.value c.in-Fields.is c.if-nets-first.false
+      value = of_one source_kind a.kind.now (source_pin _ _ _ a.at a.text.now _ c.line_fields.ensures.value c.in-Some.is c.if-nets-first.false
           c.if-nodes-second.false c.if-first-i.false) (passed c.source_kind.ensures (ap not c.if-not-source_kind.false));
       pin_place = (
-        line_place (a.at + 1) a.text.now c.in-Fields.is
+        line_place (a.at + 1) a.text.now c.in-Some.is
             c.line_fields.ensures.fields_place,
         c.if-nodes-second.false,
       );

@@ -18,7 +18,7 @@ returns-in_default c =
 pub returns-then-nodes-first : goal.returns-then-nodes-first
 returns-then-nodes-first c =
     let a = c.args in record {
-      value = node-beyond a.timed a.nodes a.v a.at a.text.now c.one_of_two-count.ensures c.line_fields.ensures.value c.in-Fields.is refl
+      value = node-beyond a.timed a.nodes a.v a.at a.text.now c.one_of_two-count.ensures c.line_fields.ensures.value c.in-Some.is refl
           (node-beyond-count _ _ _ _ _ c.if-nodes-first.true);
       node_place = tt;
     }
@@ -26,7 +26,7 @@ returns-then-nodes-first c =
 pub returns-then-second-gt-KIND_MOST : goal.returns-then-second-gt-KIND_MOST
 returns-then-second-gt-KIND_MOST c =
     let a = c.args in record {
-      value = node-beyond a.timed a.nodes a.v a.at a.text.now c.one_of_two-count.ensures c.line_fields.ensures.value c.in-Fields.is refl
+      value = node-beyond a.timed a.nodes a.v a.at a.text.now c.one_of_two-count.ensures c.line_fields.ensures.value c.in-Some.is refl
           (node-beyond_kind _ _ _ _ _ c.if-nodes-first.false c.if-second-gt-KIND_MOST.true);
       node_place = tt;
     }
@@ -34,7 +34,7 @@ returns-then-second-gt-KIND_MOST c =
 pub returns-then-third-lt1 : goal.returns-then-third-lt1
 returns-then-third-lt1 c =
     let a = c.args in record {
-      value = node-beyond a.timed a.nodes a.v a.at a.text.now c.one_of_two-count.ensures c.line_fields.ensures.value c.in-Fields.is refl
+      value = node-beyond a.timed a.nodes a.v a.at a.text.now c.one_of_two-count.ensures c.line_fields.ensures.value c.in-Some.is refl
           (node-beyond-least _ _ _ _ _ c.if-nodes-first.false c.if-second-gt-KIND_MOST.false c.if-third-lt1.true);
       node_place = tt;
     }
@@ -42,7 +42,7 @@ returns-then-third-lt1 c =
 pub returns-then-third-gt-CAPACITY_MOST : goal.returns-then-third-gt-CAPACITY_MOST
 returns-then-third-gt-CAPACITY_MOST c =
     let a = c.args in record {
-      value = node-beyond a.timed a.nodes a.v a.at a.text.now c.one_of_two-count.ensures c.line_fields.ensures.value c.in-Fields.is refl
+      value = node-beyond a.timed a.nodes a.v a.at a.text.now c.one_of_two-count.ensures c.line_fields.ensures.value c.in-Some.is refl
           (node-beyond-most _ _ _ _ _ c.if-nodes-first.false c.if-second-gt-KIND_MOST.false c.if-third-lt1.false c.if-third-gt-CAPACITY_MOST.true);
       node_place = tt;
     }
@@ -50,7 +50,7 @@ returns-then-third-gt-CAPACITY_MOST c =
 pub returns-then-delay-gt-DELAY_MOST : goal.returns-then-delay-gt-DELAY_MOST
 returns-then-delay-gt-DELAY_MOST c =
     let a = c.args in record {
-      value = node-beyond a.timed a.nodes a.v a.at a.text.now c.one_of_two-count.ensures c.line_fields.ensures.value c.in-Fields.is c.one_of_two-delay.ensures
+      value = node-beyond a.timed a.nodes a.v a.at a.text.now c.one_of_two-count.ensures c.line_fields.ensures.value c.in-Some.is c.one_of_two-delay.ensures
           (node-beyond_delay _ _ _ _ _ c.if-nodes-first.false c.if-second-gt-KIND_MOST.false c.if-third-lt1.false c.if-third-gt-CAPACITY_MOST.false (omega (arith, c.if-delay-gt-DELAY_MOST.true)));
       node_place = tt;
     }
@@ -58,7 +58,7 @@ returns-then-delay-gt-DELAY_MOST c =
 pub returns-then-first-v : goal.returns-then-first-v
 returns-then-first-v c =
     let a = c.args in record {
-      value = node_wrong a.timed a.nodes a.v a.at a.text.now c.one_of_two-count.ensures c.line_fields.ensures.value c.in-Fields.is c.one_of_two-delay.ensures
+      value = node_wrong a.timed a.nodes a.v a.at a.text.now c.one_of_two-count.ensures c.line_fields.ensures.value c.in-Some.is c.one_of_two-delay.ensures
           (node_within_lem _ _ _ _ _ c.if-nodes-first.false c.if-second-gt-KIND_MOST.false c.if-third-lt1.false c.if-third-gt-CAPACITY_MOST.false (omega (arith, c.if-delay-gt-DELAY_MOST.false))) c.if-first-v.true;
       node_place = tt;
     }
@@ -66,7 +66,7 @@ returns-then-first-v c =
 pub returns : goal.returns
 returns c =
     let a = c.args in record {
-      value = node-taken a.timed a.nodes a.v a.at a.text.now c.one_of_two-count.ensures c.line_fields.ensures.value c.in-Fields.is c.one_of_two-delay.ensures
+      value = node-taken a.timed a.nodes a.v a.at a.text.now c.one_of_two-count.ensures c.line_fields.ensures.value c.in-Some.is c.one_of_two-delay.ensures
           (node_within_lem _ _ _ _ _ c.if-nodes-first.false c.if-second-gt-KIND_MOST.false c.if-third-lt1.false c.if-third-gt-CAPACITY_MOST.false (omega (arith, c.if-delay-gt-DELAY_MOST.false))) c.if-first-v.false;
-      node_place = line_place (a.at + 1) a.text.now c.in-Fields.is c.line_fields.ensures.fields_place;
+      node_place = line_place (a.at + 1) a.text.now c.in-Some.is c.line_fields.ensures.fields_place;
     }

@@ -1,22 +1,29 @@
 -- `optional::read_terms` meets its contract: the P line after the plain terms, then the V and the W line after these.
 -- Assumes nothing.
-use Rattle.text.proofs.OptionalLineLaws.{read_place, terms-on, terms-stopped}
+use mathlib.Core.List.{List}
+use Prim.Native.Nat.{ℕ}
+use Rattle.job.specs.declared.Terms.{Terms}
+use Rattle.text.specs.JobText.{Part, and_then, rule_part, timed_part, terms_part}
+use Rattle.text.proofs.OptionalLineLaws.{read_place, then_on, then_stopped, passed_on, terms_refused}
 use Rattle.text.proofs.optional.read_terms.Goals as goal
 
+abbrev after : Terms → ℕ → List ℕ → Part Terms
+after t l rest = and_then (rule_part t l rest) timed_part
+
 pub read_further-requires : goal.read_further-requires
-read_further-requires c =
-    read_place c.args.text.now c.read_tuning.result c.in-Read.is c.read_tuning.ensures.terms_place
+read_further-requires c = read_place c.args.text.now (c.in_ok-tuned.was) c.read_tuning.ensures.terms_place
 
-pub returns-in-Read : goal.returns-in-Read
-returns-in-Read c = record {
-  value = terms-on c.args.limit c.args.at c.args.line c.args.text.now _ c.plain_terms.ensures c.read_tuning.result c.read_tuning.ensures.value
-      c.read_further.result c.in-Read.is c.read_further.ensures.value;
+pub returns-in_err-tuned : goal.returns-in_err-tuned
+unfolding terms_part
+returns-in_err-tuned c =
+    let p =
+    terms_refused c.args.text.now (passed_on c.from_residual.result c.from_residual.ensures.1)
+    (then_stopped c.args.text.now (rw c.plain_terms.ensures at c.read_tuning.ensures.value) after (c.in_err-tuned.was)) in
+    record { value = p.0; terms_place = p.1 }
+
+pub returns : goal.returns
+unfolding terms_part
+returns c = record {
+  value = then_on c.args.text.now (rw c.plain_terms.ensures at c.read_tuning.ensures.value) after c.read_further.result (c.in_ok-tuned.was) c.read_further.ensures.value;
   terms_place = c.read_further.ensures.terms_place;
-}
-
-pub returns-in-Stopped : goal.returns-in-Stopped
-returns-in-Stopped c = record {
-  value = terms-stopped c.args.limit c.args.at c.args.line c.args.text.now _ c.plain_terms.ensures c.read_tuning.result c.read_tuning.ensures.value
-      c.in-Stopped.is;
-  terms_place = tt;
 }
