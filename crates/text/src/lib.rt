@@ -79,6 +79,29 @@ impl From<UnsoundLog> for WriteRefusal {
     }
 }
 
+impl From<ReadRefusal> for Refused {
+    ghost use Rattle.std.specs.Prelude.{◌≡◌};
+    ghost use Rattle.job.specs.Refused.{refused_numbers};
+    ghost use Rattle.text.specs.ReadReplies.{refusal_numbers};
+
+    ghost from_gives = { λ refusal refused. refused_numbers refused ≡ refusal_numbers refusal };
+
+    fn from(refusal: ReadRefusal) -> Refused {
+        let (number, first, second) = match refusal {
+            ReadRefusal::Malformed(line) => (1, line as u64, None),
+            ReadRefusal::BeyondBounds(line) => (2, line as u64, None),
+            ReadRefusal::WrongOrder(line) => (3, line as u64, None),
+            ReadRefusal::ShortTable(table) => (4, table as u64, None),
+            ReadRefusal::TooLarge { nodes, limit } => (15, nodes as u64, Some(limit as u64)),
+        };
+        Refused {
+            number,
+            first,
+            second,
+        }
+    }
+}
+
 impl From<WriteRefusal> for Refused {
     ghost use Rattle.std.specs.Prelude.{◌≡◌};
     ghost use Rattle.job.specs.Refused.{refused_numbers};
