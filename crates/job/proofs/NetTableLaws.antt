@@ -1,7 +1,6 @@
 -- How a pass over tables 5 to 10 decides their rules: by the entry that breaks one, or by every entry passed.
 --     sources-all, stays_at, always_rises, firsts-    tables 5 and 6
 --     net-answer, Passing, passing-, nets-            table 7
---     none_first                                      no table is refused
 --     times_                                          tables 9 and 10
 --     block-, nets_refused, times_last                the lowest faulty table of all
 --     named                                           tables 1 to 4 and 9, by what the cheapest path refuses
@@ -109,11 +108,6 @@ passing-more i p here none long =
     record { sound = below_more _ i p.sound here; unmarked = none; long = long ∙ p.long }
 
 -- ---- a test of tables as a result
-
--- none is refused
-pub none_first : (a : ℕ) → Ok tt ≡ tested a → a ≡ 0
-none_first zero e = refl
-none_first (suc k) e = absurd (true≢false (ap is_ok e))
 
 -- the first of two is refused
 first_refused : {refused : bad.BadTable} (a b : ℕ) → Err refused ≡ tested a → Err refused ≡ tested (choose (leb 1 a) a b)

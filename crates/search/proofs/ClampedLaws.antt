@@ -2,13 +2,12 @@
 -- Assumes nothing.
 use mathlib.Core.Bool.{true}
 use mathlib.Core.List.{List}
-use mathlib.Core.Logic.{⊎_elim}
 use mathlib.Core.Path.{◌≡◌, sym, ◌∙◌, ap}
 use Prim.Native.Nat.{ℕ, ◌≤◌, ◌<◌, min, max}
 use native.Mathlib.Nat.{le_trans}
 use native.Mathlib.Omega.{arith}
+use Rattle.std.proofs.lemmas.Bool.Decides.{nat_tests}
 use lib.ListN.{get_or}
-use borrow.Author.Tests.{lt-ltb, le-ltb}
 use Rattle.price.specs.Bounds.{base_most, kind_most, factor_most, others_most, capacity_most, delay_most, criticality_most}
 use Rattle.price.specs.Prices.{price_of}
 use Rattle.std.specs.Prelude.{Result, Ok, Err}
@@ -17,7 +16,7 @@ use Rattle.price.specs.Replies.{PriceReply, priced, price_reply_of}
 use Rattle.price.specs.Timed.{weighed, weighed_reply, history_bound, weighed_most, WeighedInBounds}
 use Rattle.price.specs.declared.BadNumber.{BadNumber}
 use Rattle.price.specs.declared.Weighting.{Weighting}
-use Rattle.price.proofs.TestLaws.{by_test, le_or_lt}
+use Rattle.price.proofs.TestLaws.{by_test}
 use Rattle.price.proofs.PriceLaws.{base_most_lem}
 use Rattle.price.proofs.TimedLaws.{bound-most, bound-least, weighed_timed, weighed-untimed, weighed-pos, weighed_most_lem, reply_delay, weighed-priced}
 use Rattle.search.specs.Block.{Block}
@@ -25,26 +24,13 @@ use Rattle.search.specs.Turn.{Congestion, congested_at, price_at}
 use Rattle.search.specs.Clamped.{clamped, clamped_weighting, clamped_price, clamped_base}
 
 module _ (low high x : ℕ) where
-  pub clamped_low : x < low → clamped low high x ≡ low
-  unfolding clamped
-  clamped_low l = rw (lt-ltb x low l)
-
-  pub clamped_high : low ≤ x → high < x → clamped low high x ≡ high
-  unfolding clamped
-  clamped_high l h = rw (le-ltb x low l, lt-ltb high x h)
-
-  pub clamped_in : low ≤ x → x ≤ high → clamped low high x ≡ x
-  unfolding clamped
-  clamped_in l h = rw (le-ltb x low l, le-ltb high x h)
-
   -- as the code has it, `x.clamp(low, high)`
   pub clamped_both : low ≤ high → clamped low high x ≡ max low (min x high)
-  clamped_both b =
-      ⊎_elim
-      (λ (l : low ≤ x).
-      ⊎_elim (λ (h : x ≤ high). clamped_in l h ∙ omega arith) (λ (h : high < x). clamped_high l h ∙ omega arith) (le_or_lt x high))
-      (λ (l : x < low). clamped_low l ∙ omega arith)
-      (le_or_lt low x)
+  unfolding clamped
+  clamped_both b = grind (arith, nat_tests)
+
+  pub clamped_in : low ≤ x → x ≤ high → clamped low high x ≡ x
+  clamped_in l h = omega (arith, clamped_both (omega arith))
 
   pub clamped-least : low ≤ high → low ≤ clamped low high x
   clamped-least b = omega (arith, clamped_both b)

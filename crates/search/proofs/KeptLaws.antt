@@ -1,19 +1,16 @@
--- What a function's answer says of the test that it computes, and a flag that is kept over a whole list.
+-- What a function's answer says of the test that it computes, a flag that is kept over a whole list, and a test of every entry.
 --     refused, passed                   the answer and the test
---     Kept, kept-, keeps, every-        the flag, the entries passed and those that are left
+--     Kept, kept-, keeps                the flag, the entries passed and those that are left
+--     every_all                         a test of every entry in the words of std
 -- Assumes nothing.
 use mathlib.Core.Bool.{Bool, true, false, not, ◌&&◌}
 use mathlib.Core.List.{List, [], ◌∷◌}
 use mathlib.Core.Path.{◌≡◌, refl, sym, ◌∙◌, ap}
-use Prim.Native.Nat.{ℕ, ◌+◌, ◌≤◌, ◌<◌}
-use native.Mathlib.Numerals.{add-one}
-use lib.ListN.{length, get_or, drop, drop_of_length-le}
-use lib.Seq.{drop-cons}
+use Prim.Native.Nat.{ℕ}
 use borrow.Author.Tests.{not-true, not-false}
 use Rattle.std.specs.List.{list_all}
 use Rattle.price.specs.Test.{both}
 use Rattle.price.specs.Lists.{every}
-use Rattle.price.proofs.TestLaws.{both_false_right}
 
 -- ---- a function's answer to a test
 
@@ -29,9 +26,6 @@ passed e n = sym e ∙ not-false _ n
 pub record Kept (whole fine left : Bool) : Type 0 where
   pub whole_is : whole ≡ both fine left
 
-pub kept-none : {whole : Bool} → Kept whole true whole
-kept-none = record { whole_is = refl }
-
 both_and : (a b c : Bool) → both a (both b c) ≡ both (a && b) c
 both_and true b c = refl
 both_and false b c = refl
@@ -39,10 +33,6 @@ both_and false b c = refl
 -- an entry that is tested
 pub keeps : {whole fine left rest : Bool} (t : Bool) → Kept whole fine left → left ≡ both t rest → Kept whole (fine && t) rest
 keeps {fine = fine} {rest = rest} t k e = record { whole_is = k.whole_is ∙ rw e (both_and fine t rest) }
-
-pub both_is : (a b : Bool) → both a b ≡ (a && b)
-both_is true b = refl
-both_is false b = refl
 
 pub both_alone : (a : Bool) → both a true ≡ a
 both_alone true = refl
@@ -55,17 +45,8 @@ kept_left {left = left} k e = sym (k.whole_is ∙ rw e)
 pub kept-all : {whole fine left : Bool} → Kept whole fine left → left ≡ true → fine ≡ whole
 kept-all {fine = fine} k e = sym (k.whole_is ∙ rw e (both_alone fine))
 
--- what is left of a test of every entry
-pub every-next : (t : ℕ → Bool) (xs : List ℕ) (v : ℕ) → v < length xs → every t (drop v xs) ≡ both (t (get_or xs v 0)) (every t (drop (v + 1) xs))
-unfolding every
-every-next t xs v l = rw (drop-cons xs v 0 l, add-one)
-
-pub every-end : (t : ℕ → Bool) (xs : List ℕ) (v : ℕ) → length xs ≤ v → every t (drop v xs) ≡ true
-unfolding every
-every-end t xs v end = rw (drop_of_length-le xs end)
-
 -- a test of every entry, in the words of std
 pub every_all : (t : ℕ → Bool) (xs : List ℕ) → every t xs ≡ list_all t xs
 unfolding every
 every_all t [] = refl
-every_all t (x ∷ xs) = both_is (t x) (every t xs) ∙ ap (λ r. t x && r) (every_all t xs)
+every_all t (x ∷ xs) = ap (both (t x)) (every_all t xs)

@@ -26,7 +26,7 @@ use Rattle.search.proofs.HeapLaws.{from_else, from_here, from_other, from_wait}
 -- ---- a label on a bare node
 
 module _ {n count u v : ℕ} {firsts w : List ℕ} (r : LabelReady n firsts w count u v) (d : ℕ) where
-  pub labelled-long : length (labelled n w u v d) ≡ length w
+  labelled-long : length (labelled n w u v d) ≡ length w
   labelled-long = length-set (set w v d) (n + v) (wait_at n (set w v d) v * 65536 + u) ∙ length-set w v d
 
   labelled_other : (j : ℕ) → (j ≡ v → ⊥) → (j ≡ n + v → ⊥) → get_or (labelled n w u v d) j 0 ≡ get_or w j 0
@@ -74,8 +74,8 @@ module _ {n count u v : ℕ} {firsts w : List ℕ} (r : LabelReady n firsts w co
     keyed = λ i l. labelled-beside i ∙ r.heap.keyed i l ∙ sym (labelled_key i l);
   }
 
-  pub label-heap : {w₁ : List ℕ} → w₁ ≡ labelled n w u v d → Heaped n count w₁ × ((count < n) × (v < n) × (n < 65536) × (label_at w₁ v ≡ d))
-  label-heap e = rw e (labelled-heap, (r.more, r.v_node, omega (arith, r.few), labelled-here))
+  pub label-heap : {w₁ : List ℕ} → w₁ ≡ labelled n w u v d → Heaped n count w₁
+  label-heap e = rw e labelled-heap
 
 -- what a first label leaves: v has label d from u and nothing else has changed, but that v may wait
 record Fresh (n : ℕ) (firsts targets : List ℕ) (goals : Bool) (u v d : ℕ) (w w' : List ℕ) (count count' : ℕ) : Type 0 where

@@ -19,8 +19,9 @@ returns-then-n-s c =
     let at = c.loop-sink-test.true in
     record {
       value = sym (elim c.then-n-s.branch [
-        then-n-s-via-then-n-s w ↦ marking_bad inv at w.if-n-s.true |
-        then-n-s-via-else-n-s+then-seen-s-ne0 w ↦ marking_twice inv at w.if-seen-s-ne0.true ]);
+        | then-n-s-via-then-n-s w ↦ marking_bad inv at w.if-n-s.true
+        | then-n-s-via-else-n-s+then-seen-s-ne0 w ↦ marking_twice inv at w.if-seen-s-ne0.true
+      ]);
       stored = λ e. absurd (true≢false (sym e));
     }
 

@@ -1,7 +1,7 @@
 -- `tables::rises` meets its contract. The loop's invariant: every entry passed is above the one before it.
 -- Assumes nothing.
 use Prim.Native.Nat.{ℕ, ◌-◌, ◌<◌, ◌≤◌}
-use lib.ListN.{length, get_or}
+use lib.ListN.{get_or}
 use Rattle.job.proofs.tables.rises.Given as goal
 
 abbrev pub invariant-loop-i : goal.invariant-loop-i

@@ -1,6 +1,5 @@
 -- `search::aim::aim_row` meets its contract. The invariant: the row has been looked at up to place e, and r has the least distances.
 -- Assumes nothing.
-use Prim.Native.Nat.{◌-◌}
 use Rattle.search.specs.Block.{graph_of}
 use Rattle.search.specs.Turn.{weighed_congestion}
 use Rattle.search.specs.Clamped.{clamped_price}

@@ -1,6 +1,5 @@
 -- `search::aim::listed` meets its contract. The invariant: u stands at no place of row v before e.
 -- Assumes nothing.
-use Prim.Native.Nat.{◌-◌}
 use Rattle.search.proofs.aim.ListedLaws.{NotListedSoFar}
 use Rattle.search.proofs.aim.listed.Given as goal
 

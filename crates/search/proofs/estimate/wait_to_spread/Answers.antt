@@ -2,21 +2,12 @@
 -- Assumes nothing.
 use mathlib.Core.Logic.{inl}
 use mathlib.Core.Path.{refl}
-use native.Mathlib.Omega.{arith}
 use Rattle.search.specs.Estimates.{no_edge}
-use Rattle.search.proofs.estimate.GiveLaws.{base-small, lined_up}
+use Rattle.search.proofs.estimate.GiveLaws.{lined_up}
 use Rattle.search.proofs.estimate.wait_to_spread.Goals as goal
 
 pub returns-then-back-u : goal.returns-then-back-u
 returns-then-back-u c = (no_edge c.if-back-u.true refl refl refl, inl refl)
-
-pub overflow_cast-kind : goal.overflow_cast-kind
-overflow_cast-kind c = omega (arith, c.type_inv.kind c.args.u)
-
-pub overflow_add-level : goal.overflow_add-level
-overflow_add-level c =
-    let most = c.requires.5 in
-    omega (arith, base-small c.args.kind.now c.args.u c.base.ensures)
 
 pub returns : goal.returns
 returns c =
