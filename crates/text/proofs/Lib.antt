@@ -13,6 +13,7 @@
 --     OptionalLineLaws  a line that may be left out: P, V and W
 --     NetLineLaws       an S or a T line
 -- The whole text, for the functions that read it:
+--     CopyLaws          copying the first entries of a table one by one, for the crates above
 --     ReadJobLaws       row 4, then 15, and the tables afterwards
 --     SizeLaws          which jobs tables are long enough for, and how long what the program lends is
 -- What is read against what is printed, for TextHolds:
@@ -48,6 +49,7 @@ pub mod FieldLaws
 pub mod JudgedLaws
 pub mod OptionalLineLaws
 pub mod NetLineLaws
+pub mod CopyLaws
 pub mod ReadJobLaws
 pub mod SizeLaws
 pub mod DecimalLaws

@@ -6,17 +6,14 @@
 -- Assumes nothing.
 use mathlib.Core.Bool.{Bool, true, false}
 use mathlib.Core.List.{List, [], ◌∷◌}
-use mathlib.Core.Path.{◌≡◌, refl, ◌∙◌, ap, subst}
-use Prim.Native.Nat.{ℕ, ◌+◌, ◌≤◌}
-use native.Mathlib.Omega.{arith}
-use lib.ListN.{length, get_or, take, drop}
+use mathlib.Core.Path.{◌≡◌, ◌∙◌, ap, subst}
+use Prim.Native.Nat.{ℕ, ◌+◌}
+use lib.ListN.{get_or, take, drop}
 use borrow.Author.Tests.{eq-eqb, ne_eqb}
-use Rattle.price.specs.Test.{choose}
-use Rattle.job.specs.Job.{plain_terms}
 use Rattle.job.specs.declared.Terms.{Terms}
 use Rattle.text.specs.Lines.{letter_v, begins, Fields, taken, malformed, line}
-use Rattle.text.specs.JobText.{values, refused, judged, rule_fields, Part, part, stopped, onward, and_then, optional, tuning_part, rule_part, timed_part, terms_part}
-use Rattle.text.specs.Steps.{row, Within, After, Shaped, terms_at, TermsPlace}
+use Rattle.text.specs.JobText.{judged, rule_fields, Part, part, stopped, and_then, optional}
+use Rattle.text.specs.Steps.{row, Within, Shaped, terms_at, TermsPlace}
 use Rattle.core.specs.Result.{IsErrAnd}
 use Rattle.core.specs.declared.option.Option.{Option}
 use Rattle.core.specs.declared.option.Option.TheVariants.{Some, None}
@@ -24,8 +21,6 @@ use Rattle.core.specs.declared.result.Result.{Result}
 use Rattle.core.specs.declared.result.Result.TheVariants.{Ok, Err}
 use Rattle.text.specs.declared.fields.LineFields.{LineFields}
 use Rattle.text.specs.declared.place.Place.{Place}
-use Rattle.text.specs.declared.place.LineFault.{LineFault}
-use Rattle.text.specs.declared.place.LineFault.TheVariants.{Malformed, BeyondBounds}
 use Rattle.text.specs.declared.place.LineRefusal.{LineRefusal}
 use Rattle.text.specs.declared.optional.TermsRead.{TermsRead}
 

@@ -3,7 +3,7 @@
 use mathlib.Core.Bool.{Bool, true, false}
 use mathlib.Core.List.{List, [], ◌∷◌}
 use mathlib.Core.Logic.{⊎_elim}
-use mathlib.Core.Path.{◌≡◌, refl, sym, ◌∙◌, ap}
+use mathlib.Core.Path.{◌≡◌, refl, sym, ◌∙◌}
 use Prim.Native.Nat.{ℕ, suc, ◌+◌, ◌≤◌, ◌<◌}
 use native.Mathlib.Omega.{arith}
 use lib.ListN.{length, take}
@@ -15,10 +15,13 @@ use Rattle.search.specs.Replies.{sinks_most}
 use Rattle.job.specs.Job.{Job}
 use Rattle.job.specs.Tables.{exceeds}
 use Rattle.job.specs.declared.Terms.{Terms}
-use Rattle.text.specs.JobText.{Part, read_text}
-use Rattle.text.specs.ReadReplies.{Tables, ReadReply, not_read, refusal_numbers, lowest_short, short_times, short_untimed, short_table, written_over, tables_with, terms_numbers, job_numbers, stored_reply, reply_to, read_reply}
+use Rattle.text.specs.JobText.{read_text}
+use Rattle.text.specs.ReadReplies.{Tables, ReadReply, not_read, refusal_numbers, lowest_short, short_times, short_untimed, short_table, written_over, tables_with, terms_numbers, job_numbers, stored_reply, read_reply}
 use Rattle.text.specs.Steps.{row}
-use Rattle.text.specs.ReadSteps.{lowest_of_nine, RoomForAll, CountsWithin, job_taken, job_at, JobPlace, at_line, line_refusal, Over}
+use Rattle.core.specs.Option.{option_or}
+use Rattle.core.specs.declared.option.Option.{Option}
+use Rattle.core.specs.declared.option.Option.TheVariants.{Some, None}
+use Rattle.text.specs.ReadSteps.{table_number, Named, lowest_of_nine, RoomForAll, CountsWithin, job_taken, job_at, JobPlace, at_line, line_refusal, Over}
 use Rattle.core.specs.declared.result.Result.{Result}
 use Rattle.core.specs.declared.result.Result.TheVariants.{Ok, Err}
 use Rattle.text.specs.declared.JobCounts.{JobCounts}
@@ -82,12 +85,11 @@ module _ (n count delays criticalities : ℕ) where
     short_no_times h = rw (le-ltb delays n a, le-ltb criticalities count h)
 
 -- the lower tables' turn comes first
-module _ {first table : ℕ} (times : ℕ) (is : table ≡ first) where
-  pub lowest_first_lem : 1 ≤ table → table ≡ lowest_of_nine first times
-  lowest_first_lem h = rw (← is, le-leb 1 table h)
-
-  pub lowest_times : {later : ℕ} → table < 1 → later ≡ times → later ≡ lowest_of_nine first times
-  lowest_times h e = e ∙ rw (← is, lt-leb 1 table h)
+pub lowest_or :
+    (a b : Option ℕ) {first times : ℕ} → table_number a ≡ first → Named a → table_number b ≡ times → Named b
+    → (table_number (option_or a b) ≡ lowest_of_nine first times) × Named (option_or a b)
+lowest_or None b is some later named = (later ∙ rw (← is), named)
+lowest_or (Some table) b is some later named = (rw (← is, le-leb 1 table some), some)
 
 none_of_nine : (first times : ℕ) → lowest_of_nine first times ≡ 0 → (first ≡ 0) × (times ≡ 0)
 none_of_nine first times none =
@@ -205,16 +207,19 @@ module _
     short-is = rw (nodes_are, edges_are, nets_are, count-is, delays_are, tenths_are)
 
     -- 4: a table is too short
-    pub store_short : (table : ℕ) → table ≡ lacking → 1 ≤ table → not_read (4 ∷ table ∷ []) t ≡ stored_reply job t
+    pub store_short : {x : Option ℕ} {table : ℕ} → table_number x ≡ lacking → Named x → x ≡ Some table → not_read (4 ∷ table ∷ []) t ≡ stored_reply job t
     unfolding stored_reply
-    store_short table is some = rw (short-is, ← is, le-leb 1 table some)
+    store_short {x} {table} is named given =
+        let here : table ≡ lacking = rw given at is in
+        let some : 1 ≤ table = rw given at named in
+        rw (short-is, ← here, le-leb 1 table some)
 
-    module _ (table : ℕ) (is : table ≡ lacking) (none : table < 1) where
-      not_short : short_table job t ≡ 0
-      not_short = short-is ∙ sym is ∙ omega arith
-
+    module _ {x : Option ℕ} (is : table_number x ≡ lacking) (none : x ≡ None) where
       none_is : lacking ≡ 0
-      none_is = sym is ∙ omega arith
+      none_is = sym (rw none at is)
+
+      not_short : short_table job t ≡ 0
+      not_short = short-is ∙ none_is
 
       -- 15: the job is too large
       pub store_large : {large : Bool} → large ≡ exceeds n terms → large ≡ true → not_read (15 ∷ n ∷ terms.limit ∷ []) t ≡ stored_reply job t

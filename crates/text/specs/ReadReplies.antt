@@ -123,7 +123,15 @@ refusal_numbers (WrongOrder at) = 3 ∷ at ∷ []
 refusal_numbers (ShortTable table) = 4 ∷ table ∷ []
 refusal_numbers (TooLarge count limit) = 15 ∷ count ∷ limit ∷ []
 
+-- those of either answer
+abbrev pub read_refusal : Result JobCounts ReadRefusal → List ℕ
+read_refusal (Ok c) = []
+read_refusal (Err r) = refusal_numbers r
+
+abbrev pub read_numbers : Result JobCounts ReadRefusal → List ℕ
+read_numbers (Ok c) = c.nodes ∷ c.edges ∷ c.nets ∷ c.sinks ∷ terms_numbers c.terms
+read_numbers (Err r) = []
+
 -- the answer with the tables at the call's end
 abbrev pub read_reply_of : Result JobCounts ReadRefusal → Tables → ReadReply
-read_reply_of (Ok c) t = record { refusal = []; numbers = c.nodes ∷ c.edges ∷ c.nets ∷ c.sinks ∷ terms_numbers c.terms; tables = t }
-read_reply_of (Err r) t = not_read (refusal_numbers r) t
+read_reply_of r t = record { refusal = read_refusal r; numbers = read_numbers r; tables = t }

@@ -1,13 +1,12 @@
 -- What the contracts of the reader's private functions say about whole tables.
 -- Assumes nothing.
-use Rattle.std.specs.Prelude.{Bool, Result, Ok, Err, List, [], ◌∷◌, ◌++◌, ◌≡◌, ℕ, ◌+◌, ◌≤◌, leb, length, take, drop}
+use Rattle.std.specs.Prelude.{Bool, Option, Some, None, Result, Ok, Err, List, [], ◌∷◌, ◌++◌, ◌≡◌, ℕ, ◌+◌, ◌≤◌, leb, length, take, drop}
 use Rattle.price.specs.Test.{choose}
 use Rattle.price.specs.Bounds.{nodes_most}
 use Rattle.search.specs.Tables.{edges_most}
 use Rattle.search.specs.Replies.{sinks_most}
 use Rattle.job.specs.Tables.{nets_most}
 use Rattle.job.specs.Job.{Job, job_of}
-use Rattle.job.specs.declared.Terms.{Terms}
 use Rattle.text.specs.JobText.{Part, part, stopped, Counts, NodeLists, node_lists, node_lines}
 use Rattle.text.specs.JobText.{edge_lists, edge_lines, NetLists, net_lists, net_lines}
 use Rattle.text.specs.ReadReplies.{Tables, tables_of}
@@ -19,6 +18,15 @@ use Rattle.text.specs.declared.head.HeadRead.{HeadRead}
 use Rattle.text.specs.declared.place.LineRefusal.{LineRefusal}
 use Rattle.text.specs.declared.place.LineFault.{LineFault}
 use Rattle.text.specs.declared.place.LineFault.TheVariants as lf
+
+-- a table that is too short by its number, which is 1 at least; 0 if each is long enough
+abbrev pub table_number : Option ℕ → ℕ
+table_number None = 0
+table_number (Some table) = table
+
+abbrev pub Named : Option ℕ → Type 0
+Named None = Unit {0}
+Named (Some table) = 1 ≤ table
 
 -- row 4 of tables 1 to 7 before that of 9 and 10
 abbrev pub lowest_of_nine : ℕ → ℕ → ℕ

@@ -48,16 +48,10 @@ fn edge_line(
     else {
         return Err(LineFault::Malformed);
     };
-    if nodes <= first as usize {
+    if nodes <= first as usize || nodes <= second as usize {
         return Err(LineFault::BeyondBounds);
     }
-    if nodes <= second as usize {
-        return Err(LineFault::BeyondBounds);
-    }
-    if first == second {
-        return Err(LineFault::WrongOrder);
-    }
-    if !edge_rises(count, last_from, last_to, first as usize, second as usize) {
+    if first == second || !edge_rises(count, last_from, last_to, first as usize, second as usize) {
         return Err(LineFault::WrongOrder);
     }
     Ok(Edge {

@@ -36,6 +36,7 @@ pub struct HeadRead {
 }
 
 // The counts and the limit are within their bounds.
+// Early returns: of one `&&` over all seven tests the check doesn't tell which one failed, and the proof didn't close.
 fn head_within(nodes: u32, edges: u32, nets: u32, limit: u32) -> bool
     ensures { result ≡ head_within (nodes ∷ edges ∷ nets ∷ limit ∷ []) }
 {

@@ -6,7 +6,7 @@ ghost use Rattle.search.specs.Replies.{sinks_most};
 ghost use Rattle.price.specs.Bounds.{nodes_most};
 ghost use Rattle.price.specs.Test.{choose};
 ghost use Rattle.text.specs.ReadReplies.{tables_of, lowest_short, short_times, stored_reply, read_reply, read_reply_of};
-ghost use Rattle.text.specs.ReadSteps.{lowest_of_nine, RoomForAll, CountsWithin, job_taken, line_refusal};
+ghost use Rattle.text.specs.ReadSteps.{table_number, Named, lowest_of_nine, RoomForAll, CountsWithin, job_taken, line_refusal};
 ghost use Rattle.text.specs.Routes.{text_reply, write_reply, write_reply_of};
 ghost use Rattle.text.specs.Dot.{text_in, dot_reply, style_reply};
 ghost use Rattle.text.specs.WriteSteps.{Filled, LogTested, LatestPlaces};
@@ -146,6 +146,7 @@ mod timed;
 mod tuning;
 mod users;
 
+use copy::JobRead;
 pub use fields::byte_is;
 use job::{FIRST_SINKS_MOST, NETS_MOST, Refused, Terms};
 use latest::Latest;
@@ -155,69 +156,9 @@ pub use printing::print_line;
 use search::{EDGES_MOST, FIRST_EDGES_MOST, NODES_MOST, SINKS_MOST};
 pub use users::node_users;
 
-// The lowest of tables 1 to 7 that is shorter than the job needs, 0 if each is long enough.
-fn short_table(
-    nodes: usize,
-    edges: usize,
-    nets: usize,
-    sinks: usize,
-    kind: usize,
-    capacity: usize,
-    first_edge: usize,
-    edge_target: usize,
-    source: usize,
-    first_sink: usize,
-    sink: usize,
-) -> u32
-    requires { (nodes ≤ nodes_most) × (nets ≤ nets_most) }
-    ensures { result
-        ≡ lowest_short nodes edges nets sinks kind capacity first_edge edge_target source first_sink sink }
-{
-    if kind < nodes {
-        return 1;
-    }
-    if capacity < nodes {
-        return 2;
-    }
-    if first_edge < nodes + 1 {
-        return 3;
-    }
-    if edge_target < edges {
-        return 4;
-    }
-    if source < nets {
-        return 5;
-    }
-    if first_sink < nets + 1 {
-        return 6;
-    }
-    if sink < sinks {
-        return 7;
-    }
-    0
-}
-
-// The same of tables 9 and 10.
-fn short_times(nodes: usize, sinks: usize, delay: usize, criticality: usize) -> u32
-    ensures { result ≡ short_times nodes sinks delay criticality }
-{
-    if delay < nodes {
-        return 9;
-    }
-    if criticality < sinks {
-        return 10;
-    }
-    0
-}
-
-// The lowest of all tables, of which 9 and 10 need this many delays and criticalities.
-fn lowest_short(
-    nodes: usize,
-    edges: usize,
-    nets: usize,
-    sinks: usize,
-    delays: usize,
-    criticalities: usize,
+// How many entries each of the lent tables has.
+#[derive(Clone, Copy)]
+struct Lengths {
     kind: usize,
     capacity: usize,
     first_edge: usize,
@@ -227,28 +168,67 @@ fn lowest_short(
     sink: usize,
     delay: usize,
     criticality: usize,
-) -> u32
-    requires { (nodes ≤ nodes_most) × (nets ≤ nets_most) }
-    ensures { let first = lowest_short nodes edges nets sinks kind capacity first_edge edge_target source first_sink sink in
-        result ≡ lowest_of_nine first (short_times delays criticalities delay criticality) }
+}
+
+// The lowest of tables 1 to 7 that is shorter than the job needs.
+fn short_table(counts: JobCounts, lent: Lengths) -> Option<u32>
+    requires { (counts.nodes ≤ nodes_most) × (counts.nets ≤ nets_most) }
+    ensures number { table_number result ≡ lowest_short counts.nodes counts.edges counts.nets counts.sinks lent.kind lent.capacity
+        lent.first_edge lent.edge_target lent.source lent.first_sink lent.sink }
+    ensures named { Named result }
 {
-    let table = short_table(
-        nodes,
-        edges,
-        nets,
-        sinks,
-        kind,
-        capacity,
-        first_edge,
-        edge_target,
-        source,
-        first_sink,
-        sink,
-    );
-    if 1 <= table {
-        return table;
+    if lent.kind < counts.nodes {
+        return Some(1);
     }
-    short_times(delays, criticalities, delay, criticality)
+    if lent.capacity < counts.nodes {
+        return Some(2);
+    }
+    if lent.first_edge < counts.nodes + 1 {
+        return Some(3);
+    }
+    if lent.edge_target < counts.edges {
+        return Some(4);
+    }
+    if lent.source < counts.nets {
+        return Some(5);
+    }
+    if lent.first_sink < counts.nets + 1 {
+        return Some(6);
+    }
+    if lent.sink < counts.sinks {
+        return Some(7);
+    }
+    None
+}
+
+// The same of tables 9 and 10, which need this many delays and criticalities.
+fn short_times(delays: usize, criticalities: usize, lent: Lengths) -> Option<u32>
+    ensures number { table_number result ≡ short_times delays criticalities lent.delay lent.criticality }
+    ensures named { Named result }
+{
+    if lent.delay < delays {
+        return Some(9);
+    }
+    if lent.criticality < criticalities {
+        return Some(10);
+    }
+    None
+}
+
+// The lowest of all tables.
+fn lowest_short(
+    counts: JobCounts,
+    delays: usize,
+    criticalities: usize,
+    lent: Lengths,
+) -> Option<u32>
+    requires { (counts.nodes ≤ nodes_most) × (counts.nets ≤ nets_most) }
+    ensures number { let first = lowest_short counts.nodes counts.edges counts.nets counts.sinks lent.kind lent.capacity
+        lent.first_edge lent.edge_target lent.source lent.first_sink lent.sink in
+        table_number result ≡ lowest_of_nine first (short_times delays criticalities lent.delay lent.criticality) }
+    ensures named { Named result }
+{
+    short_table(counts, lent).or(short_times(delays, criticalities, lent))
 }
 
 // This many entries of a table that only timed jobs have.
@@ -262,15 +242,7 @@ fn if_timed(timed: bool, count: usize) -> usize
 // bounds is refused after that.
 fn store_job(
     counts: JobCounts,
-    kinds: &[u8],
-    capacities: &[u8],
-    first_edges: &[u32],
-    edge_targets: &[u16],
-    sources: &[u16],
-    first_sinks: &[u32],
-    sinks: &[u16],
-    delays: &[u16],
-    criticalities: &[u8],
+    read: &JobRead,
     kind: &mut [u8],
     capacity: &mut [u8],
     first_edge: &mut [u32],
@@ -281,83 +253,44 @@ fn store_job(
     delay: &mut [u16],
     criticality: &mut [u8],
 ) -> Result<JobCounts, ReadRefusal>
-    requires room_for_all { RoomForAll kinds.now capacities.now first_edges.now edge_targets.now
-        sources.now first_sinks.now sinks.now delays.now criticalities.now }
+    requires room_for_all { RoomForAll read.now.kind.now read.now.capacity.now read.now.first_edge.now read.now.edge_target.now
+        read.now.source.now read.now.first_sink.now read.now.sink.now read.now.delay.now read.now.criticality.now }
     requires counts_within { CountsWithin counts.nodes counts.edges counts.nets × (counts.sinks ≤ sinks_most) }
-    ensures { let job = job_taken counts kinds.now capacities.now first_edges.now
-        edge_targets.now sources.now first_sinks.now sinks.now
-        delays.now criticalities.now in
+    ensures { let job = job_taken counts read.now.kind.now read.now.capacity.now read.now.first_edge.now
+        read.now.edge_target.now read.now.source.now read.now.first_sink.now read.now.sink.now
+        read.now.delay.now read.now.criticality.now in
         let tables = tables_of kind.old capacity.old first_edge.old edge_target.old
         source.old first_sink.old sink.old delay.old criticality.old in
         let left = tables_of kind.new capacity.new first_edge.new edge_target.new
         source.new first_sink.new sink.new delay.new criticality.new in
         read_reply_of result left ≡ stored_reply job tables }
 {
-    let JobCounts {
-        nodes,
-        edges,
-        nets,
-        sinks: count,
-        terms,
-    } = counts;
-    let delays_due = if_timed(terms.timed, nodes);
-    let criticalities_due = if_timed(terms.timed, count);
-    let table = lowest_short(
-        nodes,
-        edges,
-        nets,
-        count,
-        delays_due,
-        criticalities_due,
-        kind.len(),
-        capacity.len(),
-        first_edge.len(),
-        edge_target.len(),
-        source.len(),
-        first_sink.len(),
-        sink.len(),
-        delay.len(),
-        criticality.len(),
-    );
-    if 1 <= table {
+    let terms = counts.terms;
+    let delays_due = if_timed(terms.timed, counts.nodes);
+    let criticalities_due = if_timed(terms.timed, counts.sinks);
+    let lent = Lengths {
+        kind: kind.len(),
+        capacity: capacity.len(),
+        first_edge: first_edge.len(),
+        edge_target: edge_target.len(),
+        source: source.len(),
+        first_sink: first_sink.len(),
+        sink: sink.len(),
+        delay: delay.len(),
+        criticality: criticality.len(),
+    };
+    if let Some(table) = lowest_short(counts, delays_due, criticalities_due, lent) {
         return Err(ReadRefusal::ShortTable(table));
     }
-    if job::exceeds(nodes, terms) {
+    if job::exceeds(counts.nodes, terms) {
         return Err(ReadRefusal::TooLarge {
-            nodes,
+            nodes: counts.nodes,
             limit: terms.limit,
         });
     }
-    copy::copy_block(
-        nodes,
-        edges,
-        kinds,
-        capacities,
-        first_edges,
-        edge_targets,
-        kind,
-        capacity,
-        first_edge,
-        edge_target,
-    );
-    copy::copy_nets(
-        nets,
-        count,
-        sources,
-        first_sinks,
-        sinks,
-        source,
-        first_sink,
-        sink,
-    );
-    copy::copy_times(
-        delays_due,
-        criticalities_due,
-        delays,
-        criticalities,
-        delay,
-        criticality,
-    );
+    copy::copy_block(counts, read, kind, capacity, first_edge, edge_target);
+    copy::copy_nets(counts, read, source, first_sink, sink);
+    copy::copy_times(delays_due, criticalities_due, read, delay, criticality);
     Ok(counts)
 }
 
@@ -402,17 +335,20 @@ pub fn read_job(
         &mut delays,
         &mut criticalities,
     )?;
+    let read = JobRead {
+        kind: &kinds,
+        capacity: &capacities,
+        first_edge: &first_edges,
+        edge_target: &edge_targets,
+        source: &sources,
+        first_sink: &first_sinks,
+        sink: &sinks_read,
+        delay: &delays,
+        criticality: &criticalities,
+    };
     store_job(
         counts,
-        &kinds,
-        &capacities,
-        &first_edges,
-        &edge_targets,
-        &sources,
-        &first_sinks,
-        &sinks_read,
-        &delays,
-        &criticalities,
+        &read,
         kind,
         capacity,
         first_edge,

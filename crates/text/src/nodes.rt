@@ -37,20 +37,13 @@ fn node_line(text: &[u8], at: usize, nodes: usize, v: usize, timed: bool) -> Res
     else {
         return Err(LineFault::Malformed);
     };
-    if nodes <= first as usize {
-        return Err(LineFault::BeyondBounds);
-    }
-    if bounds::KIND_MOST < second {
-        return Err(LineFault::BeyondBounds);
-    }
-    if third < 1 {
-        return Err(LineFault::BeyondBounds);
-    }
-    if bounds::CAPACITY_MOST < third {
-        return Err(LineFault::BeyondBounds);
-    }
     let delay = fields::one_of_two(timed, fourth, 0);
-    if bounds::DELAY_MOST < delay {
+    if nodes <= first as usize
+        || bounds::KIND_MOST < second
+        || third < 1
+        || bounds::CAPACITY_MOST < third
+        || bounds::DELAY_MOST < delay
+    {
         return Err(LineFault::BeyondBounds);
     }
     if first as usize != v {

@@ -16,7 +16,6 @@ use Rattle.price.specs.Bounds.{nodes_most, limit_most}
 use Rattle.price.proofs.TestLaws.{both_left, both_right}
 use Rattle.search.specs.Tables.{edges_most}
 use Rattle.job.specs.Tables.{nets_most}
-use Rattle.job.specs.declared.Terms.{Terms}
 use Rattle.text.specs.Lines.{letter_f, line}
 use Rattle.text.specs.JobText.{values, refused, part, stopped, between, head_within, head_line, terms_part, counts_of, head_part}
 use Rattle.text.specs.Steps.{row, fields_at, head_at, HeadPlace, terms_at}
@@ -26,9 +25,7 @@ use Rattle.core.specs.declared.option.Option.TheVariants.{Some, None}
 use Rattle.core.specs.declared.result.Result.{Result}
 use Rattle.core.specs.declared.result.Result.TheVariants.{Ok, Err}
 use Rattle.text.specs.declared.fields.LineFields.{LineFields}
-use Rattle.text.specs.declared.place.Place.{Place}
 use Rattle.text.specs.declared.place.LineFault.{LineFault}
-use Rattle.text.specs.declared.place.LineFault.TheVariants.{Malformed, BeyondBounds}
 use Rattle.text.specs.declared.place.LineRefusal.{LineRefusal}
 use Rattle.text.specs.declared.optional.TermsRead.{TermsRead}
 use Rattle.text.specs.declared.head.Head.{Head}

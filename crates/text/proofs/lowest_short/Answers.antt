@@ -1,15 +1,11 @@
 -- `text::lowest_short` meets its contract: tables 9 and 10 are named where no lower one is.
 -- Assumes nothing.
-use Rattle.text.specs.ReadReplies.{short_times}
-use Rattle.text.proofs.ReadJobLaws.{lowest_first_lem, lowest_times}
+use Rattle.text.proofs.ReadJobLaws.{lowest_or}
 use Rattle.text.proofs.lowest_short.Goals as goal
-
-pub returns-then-table-ge1 : goal.returns-then-table-ge1
-returns-then-table-ge1 c =
-    let a = c.args in
-    lowest_first_lem (short_times a.delays a.criticalities a.delay a.criticality) c.short_table-table.ensures c.if-table-ge1.true
 
 pub returns : goal.returns
 returns c =
-    let a = c.args in
-    lowest_times (short_times a.delays a.criticalities a.delay a.criticality) c.short_table-table.ensures c.if-table-ge1.false c.short_times.ensures
+    let first = c.short_table.ensures in
+    let times = c.short_times.ensures in
+    let p = lowest_or c.short_table.result c.short_times.result first.number first.named times.number times.named in
+    rw c.or.ensures (record { number = p.0; named = p.1 })

@@ -5,26 +5,26 @@ use Rattle.std.proofs.Common.{rules}
 use Rattle.text.proofs.ReadJobLaws.{short-kinds, short-capacities, short-first_edges, short-edges, short-sources, short-first_sinks, short-sinks, short_none}
 use Rattle.text.proofs.short_table.Goals as goal
 
-pub returns-then-kind-nodes : goal.returns-then-kind-nodes
-returns-then-kind-nodes c = sym (short-kinds _ _ _ _ _ _ _ _ _ _ _ (search rules))
+pub returns-then-lent-counts-clause-number : goal.returns-then-lent-counts-clause-number
+returns-then-lent-counts-clause-number c = sym (short-kinds _ _ _ _ _ _ _ _ _ _ _ (search rules))
 
-pub returns-then-capacity-nodes : goal.returns-then-capacity-nodes
-returns-then-capacity-nodes c = sym (short-capacities _ _ _ _ _ _ _ _ _ _ _ (search rules) (search rules))
+pub returns-then-lent-counts-2-clause-number : goal.returns-then-lent-counts-2-clause-number
+returns-then-lent-counts-2-clause-number c = sym (short-capacities _ _ _ _ _ _ _ _ _ _ _ (search rules) (search rules))
 
-pub returns-then-first_edge-nodes : goal.returns-then-first_edge-nodes
-returns-then-first_edge-nodes c = sym (short-first_edges _ _ _ _ _ _ _ _ _ _ _ (search rules) (search rules) (search rules))
+pub returns-then-lent-counts-3-clause-number : goal.returns-then-lent-counts-3-clause-number
+returns-then-lent-counts-3-clause-number c = sym (short-first_edges _ _ _ _ _ _ _ _ _ _ _ (search rules) (search rules) (search rules))
 
-pub returns-then-edge_target-edges : goal.returns-then-edge_target-edges
-returns-then-edge_target-edges c = sym (short-edges _ _ _ _ _ _ _ _ _ _ _ (search rules) (search rules) (search rules) (search rules))
+pub returns-then-lent-counts-4-clause-number : goal.returns-then-lent-counts-4-clause-number
+returns-then-lent-counts-4-clause-number c = sym (short-edges _ _ _ _ _ _ _ _ _ _ _ (search rules) (search rules) (search rules) (search rules))
 
-pub returns-then-source-nets : goal.returns-then-source-nets
-returns-then-source-nets c = sym (short-sources _ _ _ _ _ _ _ _ _ _ _ (search rules) (search rules) (search rules) (search rules) (search rules))
+pub returns-then-lent-counts-5-clause-number : goal.returns-then-lent-counts-5-clause-number
+returns-then-lent-counts-5-clause-number c = sym (short-sources _ _ _ _ _ _ _ _ _ _ _ (search rules) (search rules) (search rules) (search rules) (search rules))
 
-pub returns-then-first_sink-nets : goal.returns-then-first_sink-nets
-returns-then-first_sink-nets c = sym (short-first_sinks _ _ _ _ _ _ _ _ _ _ _ (search rules) (search rules) (search rules) (search rules) (search rules) (search rules))
+pub returns-then-lent-counts-6-clause-number : goal.returns-then-lent-counts-6-clause-number
+returns-then-lent-counts-6-clause-number c = sym (short-first_sinks _ _ _ _ _ _ _ _ _ _ _ (search rules) (search rules) (search rules) (search rules) (search rules) (search rules))
 
-pub returns-then-sink-sinks : goal.returns-then-sink-sinks
-returns-then-sink-sinks c = sym (short-sinks _ _ _ _ _ _ _ _ _ _ _ (search rules) (search rules) (search rules) (search rules) (search rules) (search rules) (search rules))
+pub returns-then-lent-counts-7-clause-number : goal.returns-then-lent-counts-7-clause-number
+returns-then-lent-counts-7-clause-number c = sym (short-sinks _ _ _ _ _ _ _ _ _ _ _ (search rules) (search rules) (search rules) (search rules) (search rules) (search rules) (search rules))
 
-pub returns : goal.returns
-returns c = sym (short_none _ _ _ _ _ _ _ _ _ _ _ (search rules) (search rules) (search rules) (search rules) (search rules) (search rules) (search rules))
+pub returns-clause-number : goal.returns-clause-number
+returns-clause-number c = sym (short_none _ _ _ _ _ _ _ _ _ _ _ (search rules) (search rules) (search rules) (search rules) (search rules) (search rules) (search rules))

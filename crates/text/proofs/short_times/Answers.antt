@@ -5,11 +5,11 @@ use Rattle.std.proofs.Common.{rules}
 use Rattle.text.proofs.ReadJobLaws.{short-delays, short-criticalities, short_no_times}
 use Rattle.text.proofs.short_times.Goals as goal
 
-pub returns-then-delay-nodes : goal.returns-then-delay-nodes
-returns-then-delay-nodes c = sym (short-delays _ _ _ _ (search rules))
+pub returns-then-lent-delays-clause-number : goal.returns-then-lent-delays-clause-number
+returns-then-lent-delays-clause-number c = sym (short-delays _ _ _ _ (search rules))
 
-pub returns-then-criticality-sinks : goal.returns-then-criticality-sinks
-returns-then-criticality-sinks c = sym (short-criticalities _ _ _ _ (search rules) (search rules))
+pub returns-then-lent-criticalities-clause-number : goal.returns-then-lent-criticalities-clause-number
+returns-then-lent-criticalities-clause-number c = sym (short-criticalities _ _ _ _ (search rules) (search rules))
 
-pub returns : goal.returns
-returns c = sym (short_no_times _ _ _ _ (search rules) (search rules))
+pub returns-clause-number : goal.returns-clause-number
+returns-clause-number c = sym (short_no_times _ _ _ _ (search rules) (search rules))

@@ -6,7 +6,7 @@ use native.Mathlib.Omega.{arith}
 use Rattle.std.proofs.Common.{ap}
 use Rattle.search.proofs.KeptLaws.{refused, passed}
 use Rattle.text.specs.Lines.{lf}
-use Rattle.text.proofs.FieldLaws.{SoFar, begins-within, none_yet, field-fault, field-more, end-there, end-missing}
+use Rattle.text.proofs.FieldLaws.{begins-within, none_yet, field-fault, field-more, end-there, end-missing}
 use Rattle.text.proofs.fields.read_fields.Goals as goal
 
 pub loop-k-init : goal.loop-k-init

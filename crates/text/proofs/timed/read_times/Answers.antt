@@ -1,13 +1,12 @@
 -- `timed::read_times` meets its contract: the line that may be left out, which has no numbers.
 -- Assumes nothing.
-use mathlib.Core.Bool.{not, true}
+use mathlib.Core.Bool.{true}
 use mathlib.Core.Path.{◌∙◌, ap, refl}
 use native.Mathlib.Omega.{arith}
 use Rattle.core.specs.declared.result.Result.TheVariants.{Ok}
-use Rattle.search.proofs.KeptLaws.{refused, passed}
 use Rattle.text.specs.Lines.{letter_w, line}
 use Rattle.text.specs.JobText.{timed_line, with_times, timed_part}
-use Rattle.text.proofs.OptionalLineLaws.{line_given, optional_none, optional_wrong, optional_beyond, optional_read, passed_on, terms_refused}
+use Rattle.text.proofs.OptionalLineLaws.{line_given, optional_none, optional_wrong, optional_read, passed_on, terms_refused}
 use Rattle.text.proofs.timed.read_times.Goals as goal
 
 pub returns-in_err-found : goal.returns-in_err-found

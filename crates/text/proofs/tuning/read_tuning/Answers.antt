@@ -1,7 +1,7 @@
 -- `tuning::read_tuning` meets its contract: the line that may be left out, with the tuning's bounds.
 -- Assumes nothing.
 use mathlib.Core.Bool.{not}
-use mathlib.Core.Path.{◌∙◌, ap, refl}
+use mathlib.Core.Path.{◌∙◌, ap}
 use native.Mathlib.Omega.{arith}
 use Rattle.core.specs.declared.result.Result.TheVariants.{Ok}
 use Rattle.search.proofs.KeptLaws.{refused, passed}
