@@ -63,16 +63,10 @@ fn source_line(
     else {
         return Err(LineFault::Malformed);
     };
-    if nets <= first as usize {
+    if nets <= first as usize || nodes <= second as usize {
         return Err(LineFault::BeyondBounds);
     }
-    if nodes <= second as usize {
-        return Err(LineFault::BeyondBounds);
-    }
-    if first as usize != i {
-        return Err(LineFault::WrongOrder);
-    }
-    if !job::source_kind(kind[second as usize]) {
+    if first as usize != i || !job::source_kind(kind[second as usize]) {
         return Err(LineFault::WrongOrder);
     }
     Ok(Pin {
@@ -114,26 +108,18 @@ fn sink_line(
     else {
         return Err(LineFault::Malformed);
     };
-    if nets <= first as usize {
-        return Err(LineFault::BeyondBounds);
-    }
-    if nodes <= second as usize {
-        return Err(LineFault::BeyondBounds);
-    }
     let criticality = fields::one_of_two(timed, third, 0);
-    if bounds::CRITICALITY_MOST < criticality {
+    if nets <= first as usize
+        || nodes <= second as usize
+        || bounds::CRITICALITY_MOST < criticality
+    {
         return Err(LineFault::BeyondBounds);
     }
-    if first as usize != i {
-        return Err(LineFault::WrongOrder);
-    }
-    if seen[second as usize] == stamp {
-        return Err(LineFault::WrongOrder);
-    }
-    if SINKS_MOST <= count {
-        return Err(LineFault::WrongOrder);
-    }
-    if !job::sink_kind(kind[second as usize]) {
+    if first as usize != i
+        || seen[second as usize] == stamp
+        || SINKS_MOST <= count
+        || !job::sink_kind(kind[second as usize])
+    {
         return Err(LineFault::WrongOrder);
     }
     Ok(Sink {
