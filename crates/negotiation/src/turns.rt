@@ -93,7 +93,10 @@ fn found_path(
     };
     // Tables and numbers keep their rules: neither search refuses.
     if aimed {
-        return search::aimed_path(tables, back, prices, work, in_tree, sinks).unwrap_or(none);
+        return match search::aimed_path(tables, back, prices, work, in_tree, sinks) {
+            Ok(turn) => turn,
+            Err(_) => none,
+        };
     }
     match search::cheapest_path(tables, prices, work, in_tree, sinks) {
         Ok(joins) => AimedTurn { joins, expanded: 0 },
@@ -253,17 +256,12 @@ fn go_on(
             let first = tariff.words;
             let most = nets::begin_net(job, log, net, due, tree_from, tree_to, users, in_tree);
             for _ in 0..most {
-                match net_turn(
+                let Ok(made) = net_turn(
                     job, back, from, to, net as u32, tariff, work, log, history, users, in_tree,
-                ) {
-                    Ok(None) => {}
-                    Ok(Some(t)) => {
-                        tariff = t;
-                    }
-                    Err(NoRoom) => {
-                        break 'iterations;
-                    }
-                }
+                ) else {
+                    break 'iterations;
+                };
+                tariff = made.unwrap_or(tariff);
             }
             let until = tariff.words;
             nets::end_net(
