@@ -19,7 +19,7 @@ use Rattle.search.proofs.BlockLaws as block
 use Rattle.job.specs.Tables.{nets_most, faulty_job, exceeds, SoundJob}
 use Rattle.job.specs.Job.{Job, job_of, if_timed, nodes, nets}
 use Rattle.job.specs.Join.{joined}
-use Rattle.job.specs.Refused.{refused_numbers}
+use Rattle.job.specs.Refused.{told, refused_numbers}
 use Rattle.job.specs.declared.refused.Refused.{Refused}
 use Rattle.negotiation.specs.Records.{Record, encode}
 use Rattle.negotiation.specs.Machine.{Progress, settles_at}
@@ -142,12 +142,12 @@ module _ (j : Job) (work log : List ℕ) (r : RouteAnswer) (work' log' : List �
       (style : Style) (routes : List ℕ) (refused : Refused) → refused_numbers refused ≡ take 3 (route_refusal r.outcome r.iteration r.turns)
       → (t : Tables) → run_reply_of (Err refused) (lent_of t work' log' routes) ≡ route_run style j t work log routes
   unfolding route_run
-  run_refused style routes refused told t =
+  run_refused style routes refused told_lem t =
       let few = subst (λ (x : RouteReply). get_or x.refusal 0 0 ≤ 15) (sym is) (refusals j work log) in
       subst (λ (x : RouteReply). run_reply_of (Err refused) (lent_of t work' log' routes) ≡ after_route style x.refusal j.sources t x routes) is
       (subst
       (λ (l : List ℕ). run_reply_of (Err refused) (lent_of t work' log' routes) ≡ after_route style l j.sources t (route_reply_of r work' log') routes)
-      (told ∙ all_told r.outcome r.iteration r.turns few)
+      (told_lem ∙ all_told r.outcome r.iteration r.turns few)
       refl)
 
 -- ---- the run
@@ -162,10 +162,19 @@ refused_of style (part j at rest) k ks t t' work log routes e =
     subst (λ (x : ReadReply). run_reply_with (k ∷ ks) 0 (lent_of t' work log routes) ≡ after_read style j x.refusal x.tables (lent_of t work log routes)) e refl
 
 pub read_refused :
-    (style : Style) (text : List ℕ) (k : ℕ) (ks : List ℕ) (t t' : Tables) (work log routes : List ℕ) → not_read (k ∷ ks) t' ≡ read_reply text t
-    → run_reply_with (k ∷ ks) 0 (lent_of t' work log routes) ≡ run_reply style text (lent_of t work log routes)
+    (style : Style) (text : List ℕ) (refused : Refused) {numbers : List ℕ} → refused_numbers refused ≡ numbers
+    → (t t' : Tables) (work log routes : List ℕ) → not_read numbers t' ≡ read_reply text t
+    → run_reply_of (Err refused) (lent_of t' work log routes) ≡ run_reply style text (lent_of t work log routes)
 unfolding read_reply run_reply
-read_refused style text k ks t t' work log routes e = refused_of style (read_text text) k ks t t' work log routes e
+read_refused style text refused is t t' work log routes e =
+    refused_of style (read_text text) refused.number (refused.first ∷ told refused.second) t t' work log routes
+    (ap (λ (ns : List ℕ). not_read ns t') is ∙ e)
+
+-- a log that the writer refuses
+pub write_refused :
+    (refused : Refused) {numbers : List ℕ} → refused_numbers refused ≡ numbers → (buffer : List ℕ)
+    → written_reply_of (Err refused) buffer ≡ record { refusal = numbers; bytes = 0; buffer = buffer }
+write_refused refused is buffer = ap (λ (ns : List ℕ). record { refusal = ns; bytes = 0; buffer = buffer }) is
 
 -- the reply for a text that is taken
 abbrev read_taken_lem : List ℕ → Tables → ReadReply

@@ -63,18 +63,18 @@ fn if_timed(terms: Terms, count: usize) -> usize
 }
 
 // Reads a job text, routes the job and writes its routes in this style. The tables, the work slice and the log are lent for it.
-pub fn run(
+pub fn run<'x>(
     style: Style,
     text: &[u8],
-    kind: &mut [u8],
-    capacity: &mut [u8],
-    first_edge: &mut [u32],
-    edge_target: &mut [u16],
-    source: &mut [u16],
-    first_sink: &mut [u32],
-    sink: &mut [u16],
-    delay: &mut [u16],
-    criticality: &mut [u8],
+    kind: &'x mut [u8],
+    capacity: &'x mut [u8],
+    first_edge: &'x mut [u32],
+    edge_target: &'x mut [u16],
+    source: &'x mut [u16],
+    first_sink: &'x mut [u32],
+    sink: &'x mut [u16],
+    delay: &'x mut [u16],
+    criticality: &'x mut [u8],
     work: &mut [u64],
     log: &mut [u32],
     routes: &mut [u8],
