@@ -12,7 +12,7 @@ ghost use Rattle.flow.specs.Steps.{answer_line};
 
 mod refusals;
 
-use job::{JobTables, Refused, Tables, Terms};
+use job::{JobTables, Refused, Terms};
 use text::Style;
 
 // What the program lends: bytes of the job text, which may have no more, and of the routes buffer ..
@@ -101,7 +101,7 @@ pub fn run<'x>(
     )?;
     let terms = counts.terms;
     let job = JobTables {
-        block: Tables {
+        block: job::Tables {
             kind: &kind[..counts.nodes],
             capacity: &capacity[..counts.nodes],
             first_edge: &first_edge[..counts.nodes + 1],
