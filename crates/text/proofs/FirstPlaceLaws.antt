@@ -18,7 +18,6 @@ use Rattle.price.proofs.TestLaws.{by_test, both_left, both_right, le_or_lt}
 use Rattle.price.proofs.ListLaws.{neighbours-all, length_up_to, get_or_up_to}
 use Rattle.search.specs.Tables.{first_edges_sound}
 use Rattle.search.proofs.BlockLaws.{firsts-long, firsts-end, firsts-order, firsts-most}
-use Rattle.search.proofs.TableLaws.{firsts-last}
 use Rattle.text.specs.JobText.{first_places}
 
 -- so many of the keys are below u
@@ -139,15 +138,20 @@ module _ (n : ℕ) (keys : List ℕ) where
   place_is u h = get_or_up_to (λ u. under u keys) (n + 1) u 0 (omega arith)
 
   pub places-sound : ((p : ℕ) → p < length keys → get_or keys p 0 < n) → first_edges_sound n (length keys) (first_places n keys) ≡ true
+  unfolding first_edges_sound
   places-sound below =
-      firsts-last n (length keys) (first_places n keys) places-long
-      (place_is 0 zero-le ∙ under_none 0 keys (λ p l. zero-le))
-      (neighbours-all leb (first_places n keys)
+      let order : neighbours leb (first_places n keys) ≡ true =
+      neighbours-all leb (first_places n keys)
       (λ i l.
       let long = places-long in
       rw (place_is i (omega arith), place_is (suc i) (omega arith))
-      (le-leb (under i keys) (under (suc i) keys) (under_more i (suc i) (omega arith) keys))))
-      ∙ eq-eqb (get_or (first_places n keys) n 0) (length keys) (place_is n (le_refl n) ∙ under_all n keys below)
+      (le-leb (under i keys) (under (suc i) keys) (under_more i (suc i) (omega arith) keys))) in
+      rw (
+        eq-eqb (length (first_places n keys)) (n + 1) places-long,
+        eq-eqb (get_or (first_places n keys) 0 0) 0 (place_is 0 zero-le ∙ under_none 0 keys (λ p l. zero-le)),
+        order,
+      )
+      (eq-eqb (get_or (first_places n keys) n 0) (length keys) (place_is n (le_refl n) ∙ under_all n keys below))
 
   pub places_filed : Keys n keys → Filed n (first_places n keys) keys
   places_filed k =

@@ -29,6 +29,7 @@ fn fill_records(style: Style, log: &[u32], net: u32, buffer: &mut [u8], start: u
 {
     let mut next = start;
     let mut at = 0;
+    // A record's length stands in it: the next place is known only at the record.
     while at < log.len() {
         let record = log_check::record_at(log, at);
         if record.net == net {

@@ -41,6 +41,7 @@ pub fn latest_records(log: &[u32]) -> Latest
     let mut from = [0usize; NETS_MOST];
     let mut to = [0usize; NETS_MOST];
     let mut at = 0;
+    // A record's length stands in it: the next place is known only at the record.
     while at < log.len() {
         let record = log_check::record_at(log, at);
         let net = record.net as usize;

@@ -89,6 +89,7 @@ pub fn check_log(marks: &[bool], nodes: usize, log: &[u32]) -> Result<SoundLog, 
     let mut at = 0;
     let mut iteration = 0;
     let mut turns = 0;
+    // A record's length stands in it: the next place is known only at the record.
     while at < log.len() {
         if !record_sound(marks, nodes, &log[at..], iteration) {
             return Err(UnsoundLog { word: at });

@@ -38,6 +38,7 @@ fn count_records(log: &[u32], net: u32, stamp: u16, users: &mut [u16], stamps: &
         users.new stamps.new }
 {
     let mut at = 0;
+    // A record's length stands in it: the next place is known only at the record.
     while at < log.len() {
         let record = log_check::record_at(log, at);
         if record.net == net {
