@@ -4,7 +4,8 @@ ghost use Rattle.text.specs.ReadSteps.{Fits, Over};
 
 use crate::JobCounts;
 
-// The tables of a job that was read, each with room for any job.
+// The tables of a job that was read, each with room for any job. The tables that are lent for writing stay loose slices: tried with a struct
+// of `&mut` slices, and the check doesn't know what such a slice holds once it was written.
 #[derive(Clone, Copy)]
 pub struct JobRead<'a> {
     pub kind: &'a [u8],

@@ -9,6 +9,7 @@ ghost use Rattle.text.specs.Steps.{pin_at, PinPlace, three_of, sink_at, SinkPlac
 ghost use Rattle.text.specs.Steps.{Within, net_line_at, KeptAfter, nets_read_at, NetsEnd};
 
 use crate::fields::LineFields;
+use crate::head::Counts;
 use crate::place::{LineFault, LineRefusal, Place};
 use crate::{bounds, fields};
 use search::{NODES_MOST, SINKS_MOST};
@@ -43,15 +44,15 @@ fn source_line(
     text: &[u8],
     at: usize,
     kind: &[u8],
-    nodes: usize,
-    nets: usize,
+    counts: Counts,
     i: usize,
 ) -> Result<Pin, LineFault>
-    requires { (nodes ≤ nodes_most) × (nodes ≤ length kind.now) }
-    ensures value { let read = source_line nodes nets i (drop at text.now) in
+    requires { (counts.nodes ≤ nodes_most) × (counts.nodes ≤ length kind.now) }
+    ensures value { let read = source_line counts.nodes counts.nets i (drop at text.now) in
         pin_at i text.now result ≡ of_kind source_kind kind.now read }
-    ensures pin_place { PinPlace nodes at text.now result }
+    ensures pin_place { PinPlace counts.nodes at text.now result }
 {
+    let Counts { nodes, nets, .. } = counts;
     let Some(
         LineFields {
             first,
@@ -80,21 +81,26 @@ fn sink_line(
     text: &[u8],
     at: usize,
     kind: &[u8],
-    nodes: usize,
-    nets: usize,
-    timed: bool,
+    counts: Counts,
     i: usize,
     count: usize,
     seen: &[u16],
     stamp: u16,
 ) -> Result<Sink, LineFault>
-    requires { (nodes ≤ nodes_most) × (nodes ≤ length seen.now) × (nodes ≤ length kind.now) }
-    ensures by_index { (pins : List ℕ) → Marked nodes stamp seen.now pins
+    requires { (counts.nodes ≤ nodes_most) × (counts.nodes ≤ length seen.now) × (counts.nodes ≤ length kind.now) }
+    ensures by_index { (pins : List ℕ) → Marked counts.nodes stamp seen.now pins
         → sink_at i text.now result
         ≡ of_kind sink_kind kind.now
-        (taking three_of (sink_line timed nodes nets i pins count (drop at text.now))) }
-    ensures sink_place { SinkPlace nodes at text.now result }
+        (taking three_of (sink_line counts.terms.timed counts.nodes counts.nets i pins count (drop at text.now))) }
+    ensures sink_place { SinkPlace counts.nodes at text.now result }
 {
+    let Counts {
+        nodes,
+        nets,
+        terms,
+        ..
+    } = counts;
+    let timed = terms.timed;
     let numbers = fields::one_of_two(timed, 3, 2) as usize;
     let Some(
         LineFields {
@@ -134,21 +140,20 @@ fn add_source(
     text: &[u8],
     c: NetCursor,
     kind: &[u8],
-    nodes: usize,
-    nets: usize,
+    counts: Counts,
     source: &mut [u16],
     first_sink: &mut [u32],
     seen: &mut [u16],
 ) -> Result<NetCursor, LineFault>
-    requires at_in_bounds { (c.at ≤ length text.now) × (c.line ≤ c.at + 1) × (nodes ≤ nodes_most) × (nets ≤ nets_most)
+    requires at_in_bounds { (c.at ≤ length text.now) × (c.line ≤ c.at + 1) × (counts.nodes ≤ nodes_most) × (counts.nets ≤ nets_most)
         × (c.sinks ≤ sinks_most) }
-    requires nets_lt_nets { (c.nets < nets) × (nets ≤ length source.old) × (nets ≤ length first_sink.old)
-        × (nodes ≤ length seen.old) × (nodes ≤ length kind.now) }
-    ensures { let read = of_kind source_kind kind.now (source_line nodes nets c.nets (drop c.at text.now)) in
-        SourceAdded nodes nets text.now c result source.old first_sink.old seen.old
+    requires nets_lt_nets { (c.nets < counts.nets) × (counts.nets ≤ length source.old) × (counts.nets ≤ length first_sink.old)
+        × (counts.nodes ≤ length seen.old) × (counts.nodes ≤ length kind.now) }
+    ensures { let read = of_kind source_kind kind.now (source_line counts.nodes counts.nets c.nets (drop c.at text.now)) in
+        SourceAdded counts.nodes counts.nets text.now c result source.old first_sink.old seen.old
         source.new first_sink.new seen.new read }
 {
-    let pin = source_line(text, c.at, kind, nodes, nets, c.nets)?;
+    let pin = source_line(text, c.at, kind, counts, c.nets)?;
     source[c.nets] = pin.node;
     first_sink[c.nets] = c.sinks as u32;
     seen[pin.node as usize] = (c.nets + 1) as u16;
@@ -166,28 +171,24 @@ fn add_sink(
     text: &[u8],
     c: NetCursor,
     kind: &[u8],
-    nodes: usize,
-    nets: usize,
-    timed: bool,
+    counts: Counts,
     sink: &mut [u16],
     criticality: &mut [u8],
     seen: &mut [u16],
 ) -> Result<NetCursor, LineFault>
-    requires at_in_bounds { (c.at ≤ length text.now) × (c.line ≤ c.at + 1) × (nodes ≤ nodes_most) × (nets ≤ nets_most) }
-    requires le_nets { (1 ≤ c.nets) × (c.nets ≤ nets) × (sinks_most ≤ length sink.old) × (sinks_most ≤ length criticality.old)
-        × (nodes ≤ length seen.old) × (nodes ≤ length kind.now) }
-    ensures { (pins : List ℕ) → Marked nodes c.nets seen.old pins
-        → SinkAdded nodes nets text.now c result sink.old criticality.old seen.old
+    requires at_in_bounds { (c.at ≤ length text.now) × (c.line ≤ c.at + 1) × (counts.nodes ≤ nodes_most) × (counts.nets ≤ nets_most) }
+    requires le_nets { (1 ≤ c.nets) × (c.nets ≤ counts.nets) × (sinks_most ≤ length sink.old) × (sinks_most ≤ length criticality.old)
+        × (counts.nodes ≤ length seen.old) × (counts.nodes ≤ length kind.now) }
+    ensures { (pins : List ℕ) → Marked counts.nodes c.nets seen.old pins
+        → SinkAdded counts.nodes counts.nets text.now c result sink.old criticality.old seen.old
         sink.new criticality.new seen.new (of_kind sink_kind kind.now
-        (taking three_of (sink_line timed nodes nets (c.nets - 1) pins c.sinks (drop c.at text.now)))) }
+        (taking three_of (sink_line counts.terms.timed counts.nodes counts.nets (c.nets - 1) pins c.sinks (drop c.at text.now)))) }
 {
     let read = sink_line(
         text,
         c.at,
         kind,
-        nodes,
-        nets,
-        timed,
+        counts,
         c.nets - 1,
         c.sinks,
         seen,
@@ -210,30 +211,26 @@ fn net_line(
     text: &[u8],
     c: NetCursor,
     kind: &[u8],
-    nodes: usize,
-    nets: usize,
-    timed: bool,
+    counts: Counts,
     source: &mut [u16],
     first_sink: &mut [u32],
     sink: &mut [u16],
     criticality: &mut [u8],
     seen: &mut [u16],
 ) -> Result<NetCursor, LineFault>
-    requires { NetKept nodes nets text.now c source.old first_sink.old sink.old criticality.old seen.old
-        × (c.at < length text.now) × (nodes ≤ length kind.now) }
+    requires { NetKept counts.nodes counts.nets text.now c source.old first_sink.old sink.old criticality.old seen.old
+        × (c.at < length text.now) × (counts.nodes ≤ length kind.now) }
     ensures criticality_after { let before = nets_at c source.old first_sink.old sink.old criticality.old in
         net_line_at text.now result source.new first_sink.new sink.new criticality.new
-        ≡ net_line timed kind.now nodes nets before (drop c.at text.now) }
-    ensures kept_after { KeptAfter nodes nets text.now c result
+        ≡ net_line counts.terms.timed kind.now counts.nodes counts.nets before (drop c.at text.now) }
+    ensures kept_after { KeptAfter counts.nodes counts.nets text.now c result
         source.new first_sink.new sink.new criticality.new seen.new }
 {
     match text[c.at] {
-        b'S' if source_due(c, nets) => {
-            add_source(text, c, kind, nodes, nets, source, first_sink, seen)
+        b'S' if source_due(c, counts.nets) => {
+            add_source(text, c, kind, counts, source, first_sink, seen)
         }
-        b'T' if 1 <= c.nets => {
-            add_sink(text, c, kind, nodes, nets, timed, sink, criticality, seen)
-        }
+        b'T' if 1 <= c.nets => { add_sink(text, c, kind, counts, sink, criticality, seen) }
         _ => Err(LineFault::Malformed),
     }
 }
@@ -250,23 +247,22 @@ pub fn read_nets(
     text: &[u8],
     from: Place,
     kind: &[u8],
-    nodes: usize,
-    nets: usize,
-    timed: bool,
+    counts: Counts,
     source: &mut [u16],
     first_sink: &mut [u32],
     sink: &mut [u16],
     criticality: &mut [u8],
 ) -> Result<usize, LineRefusal>
-    requires from_in_bounds { Within text.now from × (nodes ≤ nodes_most) × (nets ≤ nets_most)
-        × (nodes ≤ length kind.now) }
-    requires nets_in_bounds { (nets ≤ length source.old) × (nets + 1 ≤ length first_sink.old) × (sinks_most ≤ length sink.old)
+    requires from_in_bounds { Within text.now from × (counts.nodes ≤ nodes_most) × (counts.nets ≤ nets_most)
+        × (counts.nodes ≤ length kind.now) }
+    requires nets_in_bounds { (counts.nets ≤ length source.old) × (counts.nets + 1 ≤ length first_sink.old) × (sinks_most ≤ length sink.old)
         × (sinks_most ≤ length criticality.old) }
     ensures criticality_after { let bytes = drop from.at text.now in
-        (end : ℕ) × (nets_read_at nets end result source.new first_sink.new sink.new criticality.new
-        ≡ net_lines (length bytes) timed kind.now nodes nets (net_lists [] [] [] []) from.line bytes) }
-    ensures nets_end { NetsEnd nets result first_sink.new }
+        (end : ℕ) × (nets_read_at counts.nets end result source.new first_sink.new sink.new criticality.new
+        ≡ net_lines (length bytes) counts.terms.timed kind.now counts.nodes counts.nets (net_lists [] [] [] []) from.line bytes) }
+    ensures nets_end { NetsEnd counts.nets result first_sink.new }
 {
+    let nets = counts.nets;
     let mut seen = [0u16; NODES_MOST];
     let mut c = NetCursor {
         at: from.at,
@@ -280,9 +276,7 @@ pub fn read_nets(
             text,
             c,
             kind,
-            nodes,
-            nets,
-            timed,
+            counts,
             source,
             first_sink,
             sink,

@@ -24,10 +24,10 @@ reading timed kinds nodes nets c text pins = of_kind sink_kind kinds (taking thr
 few : (c : In_ok-read) → c.args.c.sinks < sinks_most
 few c =
     let a = c.args in
-    let pins = bearing a.nodes a.c.nets a.seen.now in
-    let marked = bearing_marked a.c.nets a.seen.now a.nodes in
-    sink-few a.timed a.kind.now a.nodes a.nets (a.c.nets - 1) pins a.c.sinks (drop a.c.at a.text.now)
-    (sink_reading (a.c.nets - 1) a.text.now {r = reading a.timed a.kind.now a.nodes a.nets a.c a.text.now pins} (c.sink_line.ensures.by_index pins marked) c.in_ok-read.was)
+    let pins = bearing a.counts.nodes a.c.nets a.seen.now in
+    let marked = bearing_marked a.c.nets a.seen.now a.counts.nodes in
+    sink-few a.counts.terms.timed a.kind.now a.counts.nodes a.counts.nets (a.c.nets - 1) pins a.c.sinks (drop a.c.at a.text.now)
+    (sink_reading (a.c.nets - 1) a.text.now {r = reading a.counts.terms.timed a.kind.now a.counts.nodes a.counts.nets a.c a.text.now pins} (c.sink_line.ensures.by_index pins marked) c.in_ok-read.was)
 
 pub offset_bounds-sink-c : goal.offset_bounds-sink-c
 offset_bounds-sink-c c = omega (arith, few c)
@@ -41,7 +41,7 @@ bounds-criticality-c c = omega (arith, few c)
 pub bounds-seen-read : goal.bounds-seen-read
 bounds-seen-read c =
     let a = c.args in
-    omega (arith, (sink_place a.nodes a.c.at a.text.now c.in_ok-read.was c.sink_line.ensures.sink_place).1)
+    omega (arith, (sink_place a.counts.nodes a.c.at a.text.now c.in_ok-read.was c.sink_line.ensures.sink_place).1)
 
 pub overflow_add-result-2 : goal.overflow_add-result-2
 overflow_add-result-2 c = omega (arith, few (goal.at.overflow_add-result-2 c).In_ok-read)
@@ -50,11 +50,11 @@ pub returns : goal.returns
 returns c =
     let a = c.args in
     let is = c.in_ok-read.was in
-    let place = sink_place a.nodes a.c.at a.text.now is c.sink_line.ensures.sink_place in
+    let place = sink_place a.counts.nodes a.c.at a.text.now is c.sink_line.ensures.sink_place in
     λ pins m. (
       _,
       _,
-      sink_reading (a.c.nets - 1) a.text.now {r = reading a.timed a.kind.now a.nodes a.nets a.c a.text.now pins} (c.sink_line.ensures.by_index pins m) is,
+      sink_reading (a.c.nets - 1) a.text.now {r = reading a.counts.terms.timed a.kind.now a.counts.nodes a.counts.nets a.c a.text.now pins} (c.sink_line.ensures.by_index pins m) is,
       place.1,
       place.0,
       refl,
@@ -70,4 +70,4 @@ pub returns-in_err-read : goal.returns-in_err-read
 returns-in_err-read c =
     let a = c.args in
     rw (passed_on c.from_residual.result c.from_residual.ensures.1)
-    (λ pins m. sink-refused (a.c.nets - 1) a.text.now {r = reading a.timed a.kind.now a.nodes a.nets a.c a.text.now pins} (c.sink_line.ensures.by_index pins m) c.in_err-read.was)
+    (λ pins m. sink-refused (a.c.nets - 1) a.text.now {r = reading a.counts.terms.timed a.kind.now a.counts.nodes a.counts.nets a.c a.text.now pins} (c.sink_line.ensures.by_index pins m) c.in_err-read.was)

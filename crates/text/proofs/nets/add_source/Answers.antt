@@ -13,18 +13,18 @@ use Rattle.text.proofs.nets.add_source.Goals.{Start}
 use Rattle.text.proofs.nets.add_source.Goals as goal
 
 abbrev reading : Start → Reading (List ℕ)
-reading s = let a = s.args in of_kind source_kind a.kind.now (source_line a.nodes a.nets a.c.nets (drop a.c.at a.text.now))
+reading s = let a = s.args in of_kind source_kind a.kind.now (source_line a.counts.nodes a.counts.nets a.c.nets (drop a.c.at a.text.now))
 
 pub bounds-seen-pin : goal.bounds-seen-pin
 bounds-seen-pin c =
     let a = c.args in
-    omega (arith, (pin_place a.nodes a.c.at a.text.now c.in_ok-pin.was c.source_line.ensures.pin_place).1)
+    omega (arith, (pin_place a.counts.nodes a.c.at a.text.now c.in_ok-pin.was c.source_line.ensures.pin_place).1)
 
 pub returns : goal.returns
 returns c =
     let a = c.args in
     let is = c.in_ok-pin.was in
-    let place = pin_place a.nodes a.c.at a.text.now is c.source_line.ensures.pin_place in
+    let place = pin_place a.counts.nodes a.c.at a.text.now is c.source_line.ensures.pin_place in
     let same = pin_reading a.c.nets a.text.now {r = reading (goal.at.returns c).Start} c.source_line.ensures.value is in
     (_, same, place.1, place.0, refl, refl, refl, refl, refl, refl, refl)
 

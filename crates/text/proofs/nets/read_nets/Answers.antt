@@ -10,7 +10,7 @@ pub loop-c-init : goal.loop-c-init
 loop-c-init c =
     let a = c.args in
     let b = c.requires.from_in_bounds in
-    going_first a.timed a.kind.now a.nodes a.nets a.text.now a.from.at a.from.line a.source.now a.first_sink.now a.sink.now a.criticality.now (b.0.0, b.0.1, b.1, b.2) c.requires.nets_in_bounds
+    going_first a.counts.terms.timed a.kind.now a.counts.nodes a.counts.nets a.text.now a.from.at a.from.line a.source.now a.first_sink.now a.sink.now a.criticality.now (b.0.0, b.0.1, b.1, b.2) c.requires.nets_in_bounds
 
 pub loop-c-smaller : goal.loop-c-smaller
 loop-c-smaller c =
@@ -43,5 +43,5 @@ returns c =
     let inv = c.loop-c.invariant in
     record {
       criticality_after = (c.loop-c.c.line, going_done inv c.loop-c-test.false c.if-c-nets.false c.if-c.false);
-      nets_end = (inv.kept.sinks_read, get_or-set_same c.loop-c.first_sink c.args.nets c.loop-c.c.sinks 0 (omega (arith, inv.kept.room.firsts-long)));
+      nets_end = (inv.kept.sinks_read, get_or-set_same c.loop-c.first_sink c.args.counts.nets c.loop-c.c.sinks 0 (omega (arith, inv.kept.room.firsts-long)));
     }

@@ -9,7 +9,7 @@ use Rattle.text.proofs.nets.read_nets.Given as goal
 
 abbrev pub invariant-loop-c : goal.invariant-loop-c
 invariant-loop-c l =
-    Going l.timed l.kind l.nodes l.nets l.text (net_lines (length (drop l.fn.from.at l.text)) l.timed l.kind l.nodes l.nets (net_lists [] [] [] []) l.fn.from.line (drop l.fn.from.at l.text)) l.c l.source l.first_sink l.sink l.criticality l.seen
+    Going l.counts.terms.timed l.kind l.counts.nodes l.counts.nets l.text (net_lines (length (drop l.fn.from.at l.text)) l.counts.terms.timed l.kind l.counts.nodes l.counts.nets (net_lists [] [] [] []) l.fn.from.line (drop l.fn.from.at l.text)) l.c l.source l.first_sink l.sink l.criticality l.seen
 
 abbrev pub decreases-loop-c : goal.decreases-loop-c
 decreases-loop-c l =

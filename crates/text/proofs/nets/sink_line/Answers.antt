@@ -15,14 +15,14 @@ use Rattle.text.proofs.nets.sink_line.Goals.{then-first-i-via-else-first-i+else-
 use Rattle.text.proofs.nets.sink_line.Goals as goal
 
 pub line_fields-requires : goal.line_fields-requires
-line_fields-requires c = rw c.one_of_two-numbers.ensures (sink-numbers c.args.timed)
+line_fields-requires c = rw c.one_of_two-numbers.ensures (sink-numbers c.args.counts.terms.timed)
 
 pub returns-in_default : goal.returns-in_default
 returns-in_default c =
     let a = c.args in
     let n = c.one_of_two-numbers.ensures in
     let v = c.line_fields.ensures.value in
-    record { by_index = λ pins m. of_refused sink_kind a.kind.now (sink-fault a.timed _ _ _ a.at _ a.text.now n v pins c.in_default.is); sink_place = tt }
+    record { by_index = λ pins m. of_refused sink_kind a.kind.now (sink-fault a.counts.terms.timed _ _ _ a.at _ a.text.now n v pins c.in_default.is); sink_place = tt }
 
 pub returns-then-nets-first : goal.returns-then-nets-first
 returns-then-nets-first c =
@@ -33,11 +33,11 @@ returns-then-nets-first c =
     record {
       by_index = λ pins m.
           elim c.then-nets-first.branch [
-            | then-nets-first-via-then-nets-first w ↦ of_refused sink_kind a.kind.now (sink-net a.timed _ _ _ a.at _ a.text.now n v c.in-Some.is t pins w.if-nets-first.true)
+            | then-nets-first-via-then-nets-first w ↦ of_refused sink_kind a.kind.now (sink-net a.counts.terms.timed _ _ _ a.at _ a.text.now n v c.in-Some.is t pins w.if-nets-first.true)
             | then-nets-first-via-else-nets-first+then-nodes-second w ↦
-                of_refused sink_kind a.kind.now (sink-node a.timed _ _ _ a.at _ a.text.now n v c.in-Some.is t pins w.if-nodes-second.true)
+                of_refused sink_kind a.kind.now (sink-node a.counts.terms.timed _ _ _ a.at _ a.text.now n v c.in-Some.is t pins w.if-nodes-second.true)
             | then-nets-first-via-else-nets-first+else-nodes-second+then-criticality-gt-CRITICALITY_MOST w ↦
-                of_refused sink_kind a.kind.now (sink_tenths a.timed _ _ _ a.at _ a.text.now n v c.in-Some.is t pins w.if-criticality-gt-CRITICALITY_MOST.true)
+                of_refused sink_kind a.kind.now (sink_tenths a.counts.terms.timed _ _ _ a.at _ a.text.now n v c.in-Some.is t pins w.if-criticality-gt-CRITICALITY_MOST.true)
           ];
       sink_place = tt;
     }
@@ -52,14 +52,14 @@ returns-then-first-i c =
       by_index = λ pins m.
           elim c.then-first-i.branch [
             | then-first-i-via-then-first-i w ↦
-                of_refused sink_kind a.kind.now (sink-order a.timed _ _ _ a.at _ a.text.now n v c.in-Some.is t c.if-nets-first.false c.if-nodes-second.false c.if-criticality-gt-CRITICALITY_MOST.false pins w.if-first-i.true)
+                of_refused sink_kind a.kind.now (sink-order a.counts.terms.timed _ _ _ a.at _ a.text.now n v c.in-Some.is t c.if-nets-first.false c.if-nodes-second.false c.if-criticality-gt-CRITICALITY_MOST.false pins w.if-first-i.true)
             | then-first-i-via-else-first-i+then-seen-second w ↦
-                of_refused sink_kind a.kind.now (sink-seen a.timed _ _ _ a.at _ a.text.now n v c.in-Some.is t c.if-nets-first.false c.if-nodes-second.false c.if-criticality-gt-CRITICALITY_MOST.false a.stamp a.seen.now pins m w.if-seen-second.true)
+                of_refused sink_kind a.kind.now (sink-seen a.counts.terms.timed _ _ _ a.at _ a.text.now n v c.in-Some.is t c.if-nets-first.false c.if-nodes-second.false c.if-criticality-gt-CRITICALITY_MOST.false a.stamp a.seen.now pins m w.if-seen-second.true)
             | then-first-i-via-else-first-i+else-seen-second+then-count-ge-SINKS_MOST w ↦
-                of_refused sink_kind a.kind.now (sink_many a.timed _ _ _ a.at _ a.text.now n v c.in-Some.is t c.if-nets-first.false c.if-nodes-second.false c.if-criticality-gt-CRITICALITY_MOST.false pins w.if-count-ge-SINKS_MOST.true)
+                of_refused sink_kind a.kind.now (sink_many a.counts.terms.timed _ _ _ a.at _ a.text.now n v c.in-Some.is t c.if-nets-first.false c.if-nodes-second.false c.if-criticality-gt-CRITICALITY_MOST.false pins w.if-count-ge-SINKS_MOST.true)
             | then-first-i-via-else-first-i+else-seen-second+else-count-ge-SINKS_MOST+then-not-sink_kind w ↦
                 of_none sink_kind a.kind.now
-                (sink_pin a.timed _ _ _ a.at _ a.text.now n v c.in-Some.is t c.if-nets-first.false c.if-nodes-second.false c.if-criticality-gt-CRITICALITY_MOST.false a.stamp a.seen.now pins m w.if-first-i.false w.if-seen-second.false w.if-count-ge-SINKS_MOST.false)
+                (sink_pin a.counts.terms.timed _ _ _ a.at _ a.text.now n v c.in-Some.is t c.if-nets-first.false c.if-nodes-second.false c.if-criticality-gt-CRITICALITY_MOST.false a.stamp a.seen.now pins m w.if-first-i.false w.if-seen-second.false w.if-count-ge-SINKS_MOST.false)
                 (refused w.sink_kind.ensures (ap not w.if-not-sink_kind.true))
           ];
       sink_place = tt;
@@ -72,7 +72,7 @@ returns c =
     let v = c.line_fields.ensures.value in
     let t = c.one_of_two-criticality.ensures in
     record {
-      by_index = λ pins m. of_one sink_kind a.kind.now (sink_pin a.timed _ _ _ a.at _ a.text.now n v c.in-Some.is t
+      by_index = λ pins m. of_one sink_kind a.kind.now (sink_pin a.counts.terms.timed _ _ _ a.at _ a.text.now n v c.in-Some.is t
           c.if-nets-first.false c.if-nodes-second.false c.if-criticality-gt-CRITICALITY_MOST.false a.stamp a.seen.now pins m c.if-first-i.false c.if-seen-second.false c.if-count-ge-SINKS_MOST.false) (passed c.sink_kind.ensures (ap not c.if-not-sink_kind.false));
       sink_place = (line_place (a.at + 1) a.text.now c.in-Some.is c.line_fields.ensures.fields_place, c.if-nodes-second.false);
     }
