@@ -80,7 +80,12 @@ impl From<CountsRefusal> for PrintRefusal {
 }
 
 // Adds a log to counts that passed their test.
-fn add_tested(kind: &[u8], uses: &mut [u64; KINDS], logs: u64, log: &[u32]) -> Result<u64, AddRefusal>
+fn add_tested(
+    kind: &[u8],
+    uses: &mut [u64; KINDS],
+    logs: u64,
+    log: &[u32],
+) -> Result<u64, AddRefusal>
     requires { (kinds_sound kind.now ≡ true) × AtMost count_most uses.old }
     ensures { add_reply_of logs result uses.new
         ≡ tested_reply (block_of kind.now [] [] []) (use_counts_of uses.old logs) log.now }

@@ -31,12 +31,12 @@ returns-in_err-write_style-in-None c =
     let p = err_from_is_err_and c.from_residual.result c.from_residual.ensures.1 in
     rw p.1
     (run_accepted (job_in a.job.now) a.work.now a.log.now r.result r.new.work r.new.log r.ensures.demand.as_negotiated
-    a.style a.routes.now _ c.write_style.new.routes c.in-None.ensures
-    (write_refused p.0 p.2 c.write_style.new.routes ∙ c.in_err-write_style-in-None.ensures.answers))
+    a.style a.routes.now _ c.write_style.new.buffer c.in-None.ensures
+    (write_refused p.0 p.2 c.write_style.new.buffer ∙ c.in_err-write_style-in-None.ensures.answers))
 
 pub returns-in_ok-write_style-in-None : goal.returns-in_ok-write_style-in-None
 returns-in_ok-write_style-in-None c =
     let a = c.args in
     let r = c.route-r in
     run_accepted (job_in a.job.now) a.work.now a.log.now r.result r.new.work r.new.log r.ensures.demand.as_negotiated
-    a.style a.routes.now _ c.write_style.new.routes c.in-None.ensures c.in_ok-write_style-in-None.ensures.answers
+    a.style a.routes.now _ c.write_style.new.buffer c.in-None.ensures c.in_ok-write_style-in-None.ensures.answers
