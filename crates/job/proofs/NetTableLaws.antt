@@ -180,7 +180,7 @@ module _ (j : Job) where
 -- ---- the tables that the cheapest path tests, by its refusal
 
 -- the table that a refusal names
-abbrev pub table_named : List ℕ → Result (Unit {0}) bad.BadTable
+abbrev table_named : List ℕ → Result (Unit {0}) bad.BadTable
 table_named [] = Ok tt
 table_named (k ∷ ks) = choose (eqb k 5) (Err (record { table = get_or ks 0 0 })) (Ok tt)
 

@@ -19,6 +19,7 @@ use Rattle.search.specs.Replies.{PathReply, turn_reply, fitting, path_due, path_
 use Rattle.std.specs.Prelude.{Option, Some, None, Result, Ok, Err, IsErrAnd}
 use Rattle.search.specs.declared.Joins.{Joins}
 use Rattle.search.specs.declared.Refusal.{Refusal}
+use Rattle.price.proofs.TestLaws.{true≢false}
 use Rattle.search.proofs.BlockLaws.{graph_of_lem}
 use Rattle.search.proofs.EdgeLaws.{Shaped, shape_of}
 use Rattle.search.proofs.PriceableLaws.{ready-block-fair, sinks-nodes}

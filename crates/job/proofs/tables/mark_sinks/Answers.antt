@@ -1,7 +1,6 @@
 -- `tables::mark_sinks` meets its contract. The loop's invariant: the sinks passed are nodes, differ, were not marked, and now are.
 -- Assumes nothing.
 use mathlib.Core.Path.{sym}
-use native.Mathlib.Omega.{arith}
 use Rattle.price.proofs.TestLaws.{true≢false}
 use Rattle.job.proofs.SinkMarkLaws.{marking_none, marking_more, marking_bad, marking_twice, marking_free, stored_all}
 use Rattle.job.proofs.tables.mark_sinks.Goals.{then-n-s-via-then-n-s, then-n-s-via-else-n-s+then-seen-s-ne0}
@@ -9,9 +8,6 @@ use Rattle.job.proofs.tables.mark_sinks.Goals as goal
 
 pub loop-sink-init : goal.loop-sink-init
 loop-sink-init c = marking_none _ _ _
-
-pub bounds-seen-s : goal.bounds-seen-s
-bounds-seen-s c = omega (arith, c.loop-sink.invariant.stored.long)
 
 pub returns-then-n-s : goal.returns-then-n-s
 returns-then-n-s c =
