@@ -106,7 +106,8 @@ body_after_nodes timed kinds n edges nets at bs =
     nets_after timed kinds n nets (edge_tables n (edge_lines n edges (edge_lists [] []) at bs))
 
 abbrev pub edges_nets_at :
-    (n edges nets end : ℕ) → Result ℕ LineRefusal → (first_edges edge_targets sources first_sinks sinks criticalities : List ℕ) → Part WireTables
+    (n edges nets end : ℕ) → Result ℕ LineRefusal
+    → (first_edges edge_targets sources first_sinks sinks criticalities : List ℕ) → Part WireTables
 edges_nets_at n edges nets end (Ok count) first_edges edge_targets sources first_sinks sinks criticalities =
     part
     (wire_tables (take (n + 1) first_edges) (take edges edge_targets) (take nets sources) (take (nets + 1) first_sinks)

@@ -1,6 +1,7 @@
 -- What the private functions' contracts say: how their answers stand for the definitions of the job text, at places of the text.
 -- Assumes nothing.
-use Rattle.std.specs.Prelude.{true, false, Option, Some, None, Result, Ok, Err, List, [], ◌∷◌, ◌≡◌, ℕ, ◌+◌, ◌-◌, ◌≤◌, ◌<◌, eqb, length, get_or, take, drop, set}
+use Rattle.std.specs.Prelude.{true, false, Option, Some, None, Result, Ok, Err, List, [], ◌∷◌}
+use Rattle.std.specs.Prelude.{◌≡◌, ℕ, ◌+◌, ◌-◌, ◌≤◌, ◌<◌, eqb, length, get_or, take, drop, set}
 use Rattle.price.specs.Test.{choose}
 use Rattle.price.specs.Lists.{has}
 use Rattle.price.specs.Bounds.{nodes_most}
@@ -191,7 +192,8 @@ pub record NetKept (n nets : ℕ) (text : List ℕ) (c : NetCursor) (sources fir
 
 -- what an S line does to the tables
 abbrev pub SourceAdded :
-    (n nets : ℕ) (text : List ℕ) (c : NetCursor) → Result NetCursor LineFault → (sources first_sinks seen sources' first_sinks' seen' : List ℕ)
+    (n nets : ℕ) (text : List ℕ) (c : NetCursor) → Result NetCursor LineFault
+    → (sources first_sinks seen sources' first_sinks' seen' : List ℕ)
     → Reading (List ℕ) → Type 0
 SourceAdded n nets text c (Ok d) sources first_sinks seen sources' first_sinks' seen' r =
     (node : ℕ) × (r ≡ values (c.nets ∷ node ∷ []) (drop d.at text)) × (node < n) × After (c.at + 1) text d.at
@@ -202,7 +204,8 @@ SourceAdded n nets text c (Err k) sources first_sinks seen sources' first_sinks'
 
 -- what a T line does to the tables
 abbrev pub SinkAdded :
-    (n nets : ℕ) (text : List ℕ) (c : NetCursor) → Result NetCursor LineFault → (sinks criticalities seen sinks' criticalities' seen' : List ℕ)
+    (n nets : ℕ) (text : List ℕ) (c : NetCursor) → Result NetCursor LineFault
+    → (sinks criticalities seen sinks' criticalities' seen' : List ℕ)
     → Reading (List ℕ) → Type 0
 SinkAdded n nets text c (Ok d) sinks criticalities seen sinks' criticalities' seen' r =
     (node : ℕ) × (tenths : ℕ) × (r ≡ values ((c.nets - 1) ∷ node ∷ tenths ∷ []) (drop d.at text)) × (node < n)
@@ -219,7 +222,8 @@ net_line_at text (Ok d) sources first_sinks sinks criticalities =
 net_line_at text (Err k) sources first_sinks sinks criticalities = refused (row k)
 
 abbrev pub KeptAfter :
-    (n nets : ℕ) (text : List ℕ) (c : NetCursor) → Result NetCursor LineFault → (sources first_sinks sinks criticalities seen : List ℕ) → Type 0
+    (n nets : ℕ) (text : List ℕ) (c : NetCursor) → Result NetCursor LineFault
+    → (sources first_sinks sinks criticalities seen : List ℕ) → Type 0
 KeptAfter n nets text c (Ok d) sources first_sinks sinks criticalities seen =
     (c.at < d.at) × (d.line ≡ c.line + 1) × NetKept n nets text d sources first_sinks sinks criticalities seen
 KeptAfter n nets text c (Err k) sources first_sinks sinks criticalities seen = Unit {0}

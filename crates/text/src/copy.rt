@@ -4,8 +4,8 @@ ghost use Rattle.text.specs.ReadSteps.{Fits, Over};
 
 use crate::JobCounts;
 
-// The tables of a job that was read, each with room for any job. The tables that are lent for writing stay loose slices: tried with a struct
-// of `&mut` slices, and the check doesn't know what such a slice holds once it was written.
+// The tables of a job that was read, each with room for any job.
+// Those that are written stay loose slices: with a struct of `&mut` slices the proof didn't close, since what they then hold isn't known.
 #[derive(Clone, Copy)]
 pub struct JobRead<'a> {
     pub kind: &'a [u8],

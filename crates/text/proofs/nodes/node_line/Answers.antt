@@ -31,7 +31,8 @@ returns-then-nodes-first c =
       | then-nodes-first-via-else-nodes-first+then-second-gt-KIND_MOST w ↦ node-beyond_kind _ _ _ _ _ w.if-nodes-first.false w.if-second-gt-KIND_MOST.true
       | then-nodes-first-via-else-nodes-first+else-second-gt-KIND_MOST+then-third-lt1 w ↦ node-beyond-least _ _ _ _ _ w.if-nodes-first.false w.if-second-gt-KIND_MOST.false w.if-third-lt1.true
       | then-nodes-first-via-else-nodes-first+else-second-gt-KIND_MOST+else-third-lt1+then-third-gt-CAPACITY_MOST w ↦ node-beyond-most _ _ _ _ _ w.if-nodes-first.false w.if-second-gt-KIND_MOST.false w.if-third-lt1.false w.if-third-gt-CAPACITY_MOST.true
-      | then-nodes-first-via-else-nodes-first+else-second-gt-KIND_MOST+else-third-lt1+else-third-gt-CAPACITY_MOST+then-delay-gt-DELAY_MOST w ↦ node-beyond_delay _ _ _ _ _ w.if-nodes-first.false w.if-second-gt-KIND_MOST.false w.if-third-lt1.false w.if-third-gt-CAPACITY_MOST.false (omega (arith, w.if-delay-gt-DELAY_MOST.true))
+      | then-nodes-first-via-else-nodes-first+else-second-gt-KIND_MOST+else-third-lt1+else-third-gt-CAPACITY_MOST+then-delay-gt-DELAY_MOST w ↦
+          node-beyond_delay _ _ _ _ _ w.if-nodes-first.false w.if-second-gt-KIND_MOST.false w.if-third-lt1.false w.if-third-gt-CAPACITY_MOST.false (omega (arith, w.if-delay-gt-DELAY_MOST.true))
     ] in
     record {
       value = node-beyond a.timed a.nodes a.v a.at a.text.now c.one_of_two-count.ensures c.line_fields.ensures.value c.in-Some.is c.one_of_two-delay.ensures beyond;
