@@ -29,8 +29,8 @@ struct Asked {
     whole: bool,
 }
 
-// The numbers of line 2: the limit, the tuning, the rule and its k, whether the job is timed, which search it is, and two more. Which search
-// it is may be left out, and with it the last of the terms.
+// The numbers of line 2: the limit, the tuning, the rule and its k, whether the job is timed, which search it is, and two more. Which
+// search it is may be left out, and with it the last of the terms.
 fn said(n: &[u32]) -> Option<Asked> {
     let &[limit, first, up, down, step, rule, until, ref rest @ ..] = n else {
         return None;

@@ -125,7 +125,8 @@ fn aims(text: &[u8]) -> bool {
     first == b'a' || first == b't' && lines::call(text, 6) == b'a'
 }
 
-// The lists of the nodes, table 9 of a timed case before them, and then the calls: the search that aims, or the search and the cheapest path.
+// The lists of the nodes, table 9 of a timed case before them, and then the calls: the search that aims, or the search and the cheapest
+// path.
 fn lists<'x>(text: &'x [u8], tables: Tables<'x>, weighting: Weighting, factor: u32) {
     let mut delay = [0u16; 1025];
     let mut history = [0u32; 1025];
