@@ -185,6 +185,20 @@ pub fn entries<'a, T: Copy + TryFrom<u64, Error = TryFromIntError>>(
     filled(case, after_name(case, number), list_item, into)
 }
 
+// The list of a line that a case may leave out: empty if the line isn't there.
+pub fn entries_if<'a, T: Copy + TryFrom<u64, Error = TryFromIntError>>(
+    there: bool,
+    case: &[u8],
+    number: usize,
+    into: &'a mut [T],
+) -> &'a mut [T] {
+    if there {
+        entries(case, number, into)
+    } else {
+        &mut into[..0]
+    }
+}
+
 // The text of the case's line of this number.
 pub fn text<'a>(case: &[u8], number: usize, into: &'a mut [u8]) -> &'a mut [u8] {
     filled(case, after(case, after_name(case, number)), text_item, into)

@@ -38,29 +38,34 @@ pub fn line_end() {
     letter(10);
 }
 
-// `X` and the refusal's row, after which its numbers come.
-pub fn refused(row: u64) {
+fn value(n: u64) {
+    letter(b',');
+    number(n);
+}
+
+// `X` and a refusal's numbers: its row, and those beside it.
+pub fn refused(row: u32, first: u64, second: Option<u64>) {
     letter(b' ');
     letter(b'X');
-    value(row);
+    value(row as u64);
+    value(first);
+    if let Some(n) = second {
+        value(n);
+    }
 }
 
-// A number of a refusal.
-pub fn value<N: Into<u64>>(n: N) {
-    letter(b',');
-    number(n.into());
+fn entry(n: u64) {
+    letter(b' ');
+    number(n);
 }
 
-// The numbers of an answer come after this.
-pub fn answered() {
+// `=` and the numbers of an answer.
+pub fn answered(numbers: &[u64]) {
     letter(b' ');
     letter(b'=');
-}
-
-// A number of an answer or an entry of a slice.
-pub fn entry<N: Into<u64>>(n: N) {
-    letter(b' ');
-    number(n.into());
+    for n in numbers {
+        entry(*n);
+    }
 }
 
 fn bar() {
@@ -72,7 +77,7 @@ fn bar() {
 pub fn entries<N: Copy + Into<u64>>(table: &[N]) {
     bar();
     for n in table {
-        entry(*n);
+        entry((*n).into());
     }
 }
 

@@ -5,6 +5,7 @@ use mathlib.Core.List.{List, [], ◌∷◌}
 use mathlib.Core.Path.{◌≡◌, refl, sym, ◌∙◌, ap, subst}
 use Prim.Native.Nat.{ℕ, ◌+◌, ◌-◌, ◌≤◌, ◌<◌, zero-le}
 use native.Mathlib.Omega.{arith}
+use Rattle.std.specs.Prelude.{Result, Ok, Err}
 use lib.Dec.{leb, ltb, eqb}
 use lib.ListN.{length, get_or, take, drop, length-append}
 use lib.Seq.{take_at}
@@ -18,13 +19,15 @@ use Rattle.search.proofs.BlockLaws as block
 use Rattle.job.specs.Tables.{nets_most, faulty_job, exceeds, SoundJob}
 use Rattle.job.specs.Job.{Job, job_of, if_timed, nodes, nets}
 use Rattle.job.specs.Join.{joined}
+use Rattle.job.specs.Refused.{told, refused_numbers}
+use Rattle.job.specs.declared.refused.Refused.{Refused}
 use Rattle.negotiation.specs.Records.{Record, encode}
 use Rattle.negotiation.specs.Machine.{Progress, settles_at}
 use Rattle.negotiation.specs.Outcome.{RouteReply, route_refusal, route_reply_of, log_with, first_progress, made_from, logged_records, all_records, end_numbers, unreachable_net, continued, route_reply}
 use Rattle.negotiation.specs.declared.RouteAnswer.{RouteAnswer}
 use Rattle.job.specs.declared.Terms.{Terms}
 use Rattle.negotiation.specs.declared.Outcome.{Outcome}
-use Rattle.negotiation.specs.declared.Outcome.TheVariants.{Accepted, NotCheapest}
+use Rattle.negotiation.specs.declared.Outcome.TheVariants.{Accepted, Unreachable, LogFull, Limit, BadTable, ShortWork, Diverges, TooLarge, NotCheapest}
 use Rattle.negotiation.specs.Routable.{Routable}
 use Rattle.negotiation.proofs.RoutableLaws.{routable_of}
 use Rattle.job.proofs.JobLaws as job
@@ -39,8 +42,6 @@ use Rattle.text.specs.Dot.{style_reply}
 use Rattle.text.specs.declared.Style.{Style}
 use Rattle.flow.specs.RunReplies.{Lent, lent_of, RunReply, run_reply_with, after_write, after_route, route_run, after_read, run_of, run_reply, written_reply_of, run_reply_of, input_most, response_of, line_response, answered, response}
 use Rattle.flow.specs.Steps.{answer_line}
-use Rattle.flow.specs.declared.RunAnswer.{RunAnswer}
-use Rattle.flow.specs.declared.RunAnswer.TheVariants as ra
 use Rattle.text.proofs.TextHolds.{printed_read, reader_exact}
 use Rattle.flow.proofs.ResponseLaws.{over-long}
 
@@ -102,42 +103,51 @@ refusals j work log =
     (λ v. rw (t, x, u, v) (omega arith))
     (λ v. rw (t, x, u, v) (run_refusals (joined j) (first_progress (joined j)) work log)))))
 
+-- where none of the first three numbers is there, none is
+nothing_told : (numbers : List ℕ) → take 3 numbers ≡ [] → numbers ≡ []
+nothing_told [] e = refl
+nothing_told (n ∷ ns) e = cc e
+
+-- no run is an audit, which alone tells four
+all_told : (o : Outcome) (iteration turns : ℕ) → get_or (route_refusal o iteration turns) 0 0 ≤ 15 → take 3 (route_refusal o iteration turns) ≡ route_refusal o iteration turns
+all_told Accepted iteration turns few = refl
+all_told (Unreachable net place) iteration turns few = refl
+all_told LogFull iteration turns few = refl
+all_told (Limit over) iteration turns few = refl
+all_told (BadTable table) iteration turns few = refl
+all_told (ShortWork needed) iteration turns few = refl
+all_told (Diverges word) iteration turns few = refl
+all_told (TooLarge n limit) iteration turns few = refl
+all_told (NotCheapest word cost least) iteration turns few = absurd (omega (arith, few))
+
 module _ (j : Job) (work log : List ℕ) (r : RouteAnswer) (work' log' : List ℕ) (is : route_reply_of r work' log' ≡ route_reply j work log) where
   pub words_fit : r.used ≤ length log'
   words_fit = subst (λ (x : RouteReply). x.used ≤ length x.log) (sym is) (used-fits j work log)
 
-  -- no run is an audit
-  pub never_found : {word cost least : ℕ} → r.outcome ≡ NotCheapest word cost least → ⊥
-  never_found {word} {cost} {least} out =
-      let few : get_or (route_refusal r.outcome r.iteration r.turns) 0 0 ≤ 15 =
-      subst (λ (x : RouteReply). get_or x.refusal 0 0 ≤ 15) (sym is) (refusals j work log) in
-      let told : get_or (route_refusal (NotCheapest word cost least) r.iteration r.turns) 0 0 ≤ 15 =
-      subst (λ (o : Outcome). get_or (route_refusal o r.iteration r.turns) 0 0 ≤ 15) out few in
-      omega arith
-
   -- an accepted job's routes are written
   pub run_accepted :
-      (style : Style) (routes : List ℕ) (a : RunAnswer) (routes' : List ℕ) → r.outcome ≡ Accepted
+      (style : Style) (routes : List ℕ) (a : Result ℕ Refused) (routes' : List ℕ) → [] ≡ take 3 (route_refusal r.outcome r.iteration r.turns)
       → written_reply_of a routes' ≡ style_reply style j.sources (take r.used log') routes
       → (t : Tables) → run_reply_of a (lent_of t work' log' routes') ≡ route_run style j t work log routes
   unfolding route_run
-  run_accepted style routes a routes' out wrote t =
+  run_accepted style routes a routes' none wrote t =
       subst (λ (x : RouteReply). run_reply_of a (lent_of t work' log' routes') ≡ after_route style x.refusal j.sources t x routes) is
       (subst
-      (λ (o : Outcome). run_reply_of a (lent_of t work' log' routes') ≡ after_route style (route_refusal o r.iteration r.turns) j.sources t (route_reply_of r work' log') routes)
-      (sym out)
+      (λ (l : List ℕ). run_reply_of a (lent_of t work' log' routes') ≡ after_route style l j.sources t (route_reply_of r work' log') routes)
+      (sym (nothing_told (route_refusal r.outcome r.iteration r.turns) (sym none)))
       (ap (λ (w : WriteReply). after_write t (route_reply_of r work' log') w) wrote))
 
   -- a refused one has none
   pub run_refused :
-      (style : Style) (routes : List ℕ) (k : ℕ) (ks : List ℕ) (o : Outcome) → r.outcome ≡ o → route_refusal o r.iteration r.turns ≡ k ∷ ks
-      → (t : Tables) → run_reply_with (k ∷ ks) 0 (lent_of t work' log' routes) ≡ route_run style j t work log routes
+      (style : Style) (routes : List ℕ) (refused : Refused) → refused_numbers refused ≡ take 3 (route_refusal r.outcome r.iteration r.turns)
+      → (t : Tables) → run_reply_of (Err refused) (lent_of t work' log' routes) ≡ route_run style j t work log routes
   unfolding route_run
-  run_refused style routes k ks o out numbers t =
-      subst (λ (x : RouteReply). run_reply_with (k ∷ ks) 0 (lent_of t work' log' routes) ≡ after_route style x.refusal j.sources t x routes) is
+  run_refused style routes refused told_lem t =
+      let few = subst (λ (x : RouteReply). get_or x.refusal 0 0 ≤ 15) (sym is) (refusals j work log) in
+      subst (λ (x : RouteReply). run_reply_of (Err refused) (lent_of t work' log' routes) ≡ after_route style x.refusal j.sources t x routes) is
       (subst
-      (λ (l : List ℕ). run_reply_with (k ∷ ks) 0 (lent_of t work' log' routes) ≡ after_route style l j.sources t (route_reply_of r work' log') routes)
-      (sym (ap (λ (x : Outcome). route_refusal x r.iteration r.turns) out ∙ numbers))
+      (λ (l : List ℕ). run_reply_of (Err refused) (lent_of t work' log' routes) ≡ after_route style l j.sources t (route_reply_of r work' log') routes)
+      (told_lem ∙ all_told r.outcome r.iteration r.turns few)
       refl)
 
 -- ---- the run
@@ -152,10 +162,19 @@ refused_of style (part j at rest) k ks t t' work log routes e =
     subst (λ (x : ReadReply). run_reply_with (k ∷ ks) 0 (lent_of t' work log routes) ≡ after_read style j x.refusal x.tables (lent_of t work log routes)) e refl
 
 pub read_refused :
-    (style : Style) (text : List ℕ) (k : ℕ) (ks : List ℕ) (t t' : Tables) (work log routes : List ℕ) → not_read (k ∷ ks) t' ≡ read_reply text t
-    → run_reply_with (k ∷ ks) 0 (lent_of t' work log routes) ≡ run_reply style text (lent_of t work log routes)
+    (style : Style) (text : List ℕ) (refused : Refused) {numbers : List ℕ} → refused_numbers refused ≡ numbers
+    → (t t' : Tables) (work log routes : List ℕ) → not_read numbers t' ≡ read_reply text t
+    → run_reply_of (Err refused) (lent_of t' work log routes) ≡ run_reply style text (lent_of t work log routes)
 unfolding read_reply run_reply
-read_refused style text k ks t t' work log routes e = refused_of style (read_text text) k ks t t' work log routes e
+read_refused style text refused is t t' work log routes e =
+    refused_of style (read_text text) refused.number (refused.first ∷ told refused.second) t t' work log routes
+    (ap (λ (ns : List ℕ). not_read ns t') is ∙ e)
+
+-- a log that the writer refuses
+pub write_refused :
+    (refused : Refused) {numbers : List ℕ} → refused_numbers refused ≡ numbers → (buffer : List ℕ)
+    → written_reply_of (Err refused) buffer ≡ record { refusal = numbers; bytes = 0; buffer = buffer }
+write_refused refused is buffer = ap (λ (ns : List ℕ). record { refusal = ns; bytes = 0; buffer = buffer }) is
 
 -- the reply for a text that is taken
 abbrev read_taken_lem : List ℕ → Tables → ReadReply
@@ -299,15 +318,12 @@ module _ (style : Style) (input : List ℕ) (l : Lent) (short : length input ≤
 
   -- the routes text, or the line of the refusal
   pub shown_out :
-      (r : RunAnswer) (t : Tables) (work log routes : List ℕ) (bytes : ℕ) (routes' : List ℕ)
+      (r : Result ℕ Refused) (t : Tables) (work log routes : List ℕ) (bytes : ℕ) (routes' : List ℕ)
       → run_reply_of r (lent_of t work log routes) ≡ run_reply style input l → place_reply_of bytes routes' ≡ answer_line r routes
       → response_of bytes (lent_of t work log routes') ≡ response style input l
-  shown_out (ra.Written b) t work log routes bytes routes' e shown =
+  shown_out (Ok b) t work log routes bytes routes' e shown =
       ap (λ (x : PlaceReply). line_response x (lent_of t work log routes)) shown
       ∙ responded (run_reply_with [] b (lent_of t work log routes)) e
-  shown_out (ra.One k v) t work log routes bytes routes' e shown =
+  shown_out (Err refused) t work log routes bytes routes' e shown =
       ap (λ (x : PlaceReply). line_response x (lent_of t work log routes)) shown
-      ∙ responded (run_reply_with (k ∷ v ∷ []) 0 (lent_of t work log routes)) e
-  shown_out (ra.Two k v w) t work log routes bytes routes' e shown =
-      ap (λ (x : PlaceReply). line_response x (lent_of t work log routes)) shown
-      ∙ responded (run_reply_with (k ∷ v ∷ w ∷ []) 0 (lent_of t work log routes)) e
+      ∙ responded (run_reply_with (refused_numbers refused) 0 (lent_of t work log routes)) e

@@ -1,9 +1,11 @@
 -- Document 01: the whole way from a job text to its routes text over lent buffers, and what the program prints. Request 2.10: the same
 -- way to the picture of the routes, where the style asks for it.
 -- Assumes nothing.
-use Rattle.std.specs.Prelude.{List, [], ◌∷◌, ℕ, ltb, length, take}
+use Rattle.std.specs.Prelude.{List, [], ◌∷◌, ℕ, ltb, length, take, Result, Ok, Err}
 use Rattle.price.specs.Test.{choose}
 use Rattle.job.specs.Job.{Job}
+use Rattle.job.specs.Refused.{refused_numbers}
+use Rattle.job.specs.declared.refused.Refused.{Refused}
 use Rattle.negotiation.specs.Outcome.{RouteReply, route_reply}
 use Rattle.text.specs.Lines.{letter_x}
 use Rattle.text.specs.LineReplies.{PlaceReply, place_reply_of, line_reply}
@@ -13,8 +15,6 @@ use Rattle.text.specs.Sizes.{bytes_lent, tables_lent, work_lent, log_lent, route
 use Rattle.text.specs.Routes.{WriteReply}
 use Rattle.text.specs.Dot.{style_reply}
 use Rattle.text.specs.declared.Style.{Style}
-use Rattle.flow.specs.declared.RunAnswer.{RunAnswer}
-use Rattle.flow.specs.declared.RunAnswer.TheVariants as a
 
 -- everything that a run is lent beside the job text
 pub record Lent : Type 0 where
@@ -63,22 +63,20 @@ unfoldable pub run_reply : Style → List ℕ → Lent → RunReply
 run_reply style text l = run_of style (read_text text) l
 
 -- 01's numbers for each case of the answer
-abbrev pub run_numbers : RunAnswer → List ℕ
-run_numbers (a.Written bytes) = []
-run_numbers (a.One number value) = number ∷ value ∷ []
-run_numbers (a.Two number first second) = number ∷ first ∷ second ∷ []
+abbrev pub run_numbers : Result ℕ Refused → List ℕ
+run_numbers (Ok bytes) = []
+run_numbers (Err refused) = refused_numbers refused
 
-abbrev pub run_bytes : RunAnswer → ℕ
-run_bytes (a.Written bytes) = bytes
-run_bytes (a.One number value) = 0
-run_bytes (a.Two number first second) = 0
+abbrev pub run_bytes : Result ℕ Refused → ℕ
+run_bytes (Ok bytes) = bytes
+run_bytes (Err refused) = 0
 
 -- the answer with the routes buffer at the call's end, where only the writer was called
-abbrev pub written_reply_of : RunAnswer → List ℕ → WriteReply
+abbrev pub written_reply_of : Result ℕ Refused → List ℕ → WriteReply
 written_reply_of r buffer = record { refusal = run_numbers r; bytes = run_bytes r; buffer = buffer }
 
 -- the answer with what was lent at the call's end
-abbrev pub run_reply_of : RunAnswer → Lent → RunReply
+abbrev pub run_reply_of : Result ℕ Refused → Lent → RunReply
 run_reply_of r l = run_reply_with (run_numbers r) (run_bytes r) l
 
 -- ---- the program

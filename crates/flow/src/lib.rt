@@ -1,39 +1,19 @@
 // The whole way from a job text to its routes text or their picture, and what the program prints.
 #![tactic(auto)]
 
-ghost use Rattle.std.specs.Prelude.{◌≡◌, ◌≤◌, length, take};
+ghost use Rattle.std.specs.Prelude.{◌≡◌};
 ghost use Rattle.price.specs.Test.{choose};
-ghost use Rattle.job.specs.Job.{job_of};
+ghost use Rattle.job.specs.Lent.{job_in};
 ghost use Rattle.text.specs.ReadReplies.{Tables, tables_of};
 ghost use Rattle.text.specs.LineReplies.{place_reply_of};
-ghost use Rattle.text.specs.Dot.{style_reply};
-ghost use Rattle.flow.specs.RunReplies.{lent_of, route_run, run_reply, run_reply_of, written_reply_of, response_of, response};
+ghost use Rattle.flow.specs.RunReplies.{lent_of, route_run, run_reply, run_reply_of, response_of, response};
 ghost use Rattle.flow.specs.RunReplies.{shown_in, program_lent};
 ghost use Rattle.flow.specs.Steps.{answer_line};
 
 mod refusals;
 
-use job::Terms;
-use negotiation::Outcome;
-use text::{ReadAnswer, Style, WriteAnswer};
-
-// What a run answers.
-#[derive(Clone, Copy)]
-pub enum RunAnswer {
-    // This many bytes of the text are written.
-    Written(usize),
-    // A refusal with one number beside its own.
-    One {
-        number: u32,
-        value: u64,
-    },
-    // A refusal with two.
-    Two {
-        number: u32,
-        first: u64,
-        second: u64,
-    },
-}
+use job::{JobTables, Refused, Terms};
+use text::Style;
 
 // What the program lends: bytes of the job text, which may have no more, and of the routes buffer ..
 pub const BYTES: usize = 65536;
@@ -56,115 +36,22 @@ const FIRST_SINKS: usize = 513;
 
 const SINKS: usize = 4096;
 
-// Writes the routes from the words used.
-fn write_used(
-    style: Style,
-    source: &[u16],
-    log: &[u32],
-    words: usize,
-    routes: &mut [u8],
-) -> RunAnswer
-    requires { words ≤ length log.now }
-    ensures { written_reply_of result routes.new
-        ≡ style_reply style source.now (take words log.now) routes.old }
-{
-    match text::write_style(style, source, &log[..words], routes) {
-        WriteAnswer::Written(bytes) => RunAnswer::Written(bytes),
-        WriteAnswer::BadTable(table) => RunAnswer::One {
-            number: 5,
-            value: table as u64,
-        },
-        WriteAnswer::Unsound(word) => RunAnswer::One {
-            number: 10,
-            value: word as u64,
-        },
-        WriteAnswer::ShortBuffer(needed) => RunAnswer::One {
-            number: 11,
-            value: needed,
-        },
-    }
-}
-
-// Routes a job given as tables, and writes its routes where it is accepted.
+// Routes a job given as tables, and writes its routes where it is accepted: how many bytes they are.
 fn route_job(
     style: Style,
-    kind: &[u8],
-    capacity: &[u8],
-    first_edge: &[u32],
-    edge_target: &[u16],
-    source: &[u16],
-    first_sink: &[u32],
-    sink: &[u16],
-    delay: &[u16],
-    criticality: &[u8],
-    terms: Terms,
+    job: &JobTables,
     work: &mut [u64],
     log: &mut [u32],
     routes: &mut [u8],
-) -> RunAnswer
-    ensures { let job = job_of kind.now capacity.now first_edge.now edge_target.now
-        source.now first_sink.now sink.now delay.now criticality.now terms in
+) -> Result<usize, Refused>
+    ensures { let j = job_in job.now in
         ((t : Tables) → run_reply_of result (lent_of t work.new log.new routes.new)
-        ≡ route_run style job t work.old log.old routes.old) }
+        ≡ route_run style j t work.old log.old routes.old) }
 {
-    let r = negotiation::route(
-        kind,
-        capacity,
-        first_edge,
-        edge_target,
-        source,
-        first_sink,
-        sink,
-        delay,
-        criticality,
-        terms,
-        false,
-        work,
-        log,
-    );
-    let words = r.used as usize;
-    let outcome = r.outcome;
-    match outcome {
-        Outcome::Accepted => write_used(style, source, log, words, routes),
-        Outcome::Unreachable { net, place } => RunAnswer::Two {
-            number: 7,
-            first: net as u64,
-            second: place as u64,
-        },
-        Outcome::LogFull => RunAnswer::Two {
-            number: 8,
-            first: r.iteration as u64,
-            second: r.turns,
-        },
-        Outcome::Limit(over) => RunAnswer::Two {
-            number: 9,
-            first: r.iteration as u64,
-            second: over as u64,
-        },
-        Outcome::BadTable(table) => RunAnswer::One {
-            number: 5,
-            value: table as u64,
-        },
-        Outcome::ShortWork(needed) => RunAnswer::One {
-            number: 6,
-            value: needed,
-        },
-        // A run from the start has no lent log to refuse.
-        Outcome::Diverges(word) => RunAnswer::One {
-            number: 14,
-            value: word,
-        },
-        Outcome::TooLarge { nodes, limit } => RunAnswer::Two {
-            number: 15,
-            first: nodes as u64,
-            second: limit as u64,
-        },
-        // Nor is it an audit.
-        Outcome::NotCheapest { word, cost, least } => RunAnswer::Two {
-            number: 18,
-            first: word,
-            second: cost,
-        },
+    let r = negotiation::route(job, false, work, log);
+    match negotiation::refusal(r.outcome, r.iteration, r.turns) {
+        Some(refused) => Err(refused),
+        None => Ok(text::write_style(style, job.source, &log[..r.used as usize], routes)?),
     }
 }
 
@@ -176,22 +63,22 @@ fn if_timed(terms: Terms, count: usize) -> usize
 }
 
 // Reads a job text, routes the job and writes its routes in this style. The tables, the work slice and the log are lent for it.
-pub fn run(
+pub fn run<'x>(
     style: Style,
     text: &[u8],
-    kind: &mut [u8],
-    capacity: &mut [u8],
-    first_edge: &mut [u32],
-    edge_target: &mut [u16],
-    source: &mut [u16],
-    first_sink: &mut [u32],
-    sink: &mut [u16],
-    delay: &mut [u16],
-    criticality: &mut [u8],
+    kind: &'x mut [u8],
+    capacity: &'x mut [u8],
+    first_edge: &'x mut [u32],
+    edge_target: &'x mut [u16],
+    source: &'x mut [u16],
+    first_sink: &'x mut [u32],
+    sink: &'x mut [u16],
+    delay: &'x mut [u16],
+    criticality: &'x mut [u8],
     work: &mut [u64],
     log: &mut [u32],
     routes: &mut [u8],
-) -> RunAnswer
+) -> Result<usize, Refused>
     ensures answers { let tables = tables_of kind.old capacity.old first_edge.old edge_target.old
         source.old first_sink.old sink.old delay.old criticality.old in
         let left = tables_of kind.new capacity.new first_edge.new edge_target.new
@@ -200,7 +87,7 @@ pub fn run(
         let after = lent_of left work.new log.new routes.new in
         run_reply_of result after ≡ run_reply style text.now lent }
 {
-    match text::read_job(
+    let counts = text::read_job(
         text,
         kind,
         capacity,
@@ -211,71 +98,32 @@ pub fn run(
         sink,
         delay,
         criticality,
-    ) {
-        ReadAnswer::Job {
-            nodes,
-            edges,
-            nets,
-            sinks,
-            terms,
-        } => {
-            let places = nodes + 1;
-            let firsts = nets + 1;
-            let delays = if_timed(terms, nodes);
-            let criticalities = if_timed(terms, sinks);
-            route_job(
-                style,
-                &kind[..nodes],
-                &capacity[..nodes],
-                &first_edge[..places],
-                &edge_target[..edges],
-                &source[..nets],
-                &first_sink[..firsts],
-                &sink[..sinks],
-                &delay[..delays],
-                &criticality[..criticalities],
-                terms,
-                work,
-                log,
-                routes,
-            )
-        }
-        ReadAnswer::Malformed(line) => RunAnswer::One {
-            number: 1,
-            value: line as u64,
+    )?;
+    let terms = counts.terms;
+    let job = JobTables {
+        block: job::Tables {
+            kind: &kind[..counts.nodes],
+            capacity: &capacity[..counts.nodes],
+            first_edge: &first_edge[..counts.nodes + 1],
+            edge_target: &edge_target[..counts.edges],
         },
-        ReadAnswer::BeyondBounds(line) => RunAnswer::One {
-            number: 2,
-            value: line as u64,
-        },
-        ReadAnswer::WrongOrder(line) => RunAnswer::One {
-            number: 3,
-            value: line as u64,
-        },
-        ReadAnswer::ShortTable(table) => RunAnswer::One {
-            number: 4,
-            value: table as u64,
-        },
-        ReadAnswer::TooLarge { nodes, limit } => RunAnswer::Two {
-            number: 15,
-            first: nodes as u64,
-            second: limit as u64,
-        },
-    }
+        source: &source[..counts.nets],
+        first_sink: &first_sink[..counts.nets + 1],
+        sink: &sink[..counts.sinks],
+        delay: &delay[..if_timed(terms, counts.nodes)],
+        criticality: &criticality[..if_timed(terms, counts.sinks)],
+        terms,
+    };
+    route_job(style, &job, work, log, routes)
 }
 
 // What an answer leaves in the routes buffer: the text that is there already, or the line of the refusal.
-fn put_answer(answer: RunAnswer, routes: &mut [u8]) -> usize
+fn put_answer(answer: Result<usize, Refused>, routes: &mut [u8]) -> usize
     ensures { place_reply_of result routes.new ≡ answer_line answer routes.old }
 {
     match answer {
-        RunAnswer::Written(bytes) => bytes,
-        RunAnswer::One { number, value } => refusals::write_refusal(number, value, routes),
-        RunAnswer::Two {
-            number,
-            first,
-            second,
-        } => refusals::write_refusal_of_two(number, first, second, routes),
+        Ok(bytes) => bytes,
+        Err(refused) => refusals::write_refusal(refused, routes),
     }
 }
 
@@ -306,7 +154,12 @@ pub fn respond(
         response_of result after ≡ response style input.now lent }
 {
     if BYTES < input.len() {
-        return refusals::write_refusal(12, BYTES as u64, routes);
+        let refused = Refused {
+            number: 12,
+            first: BYTES as u64,
+            second: None,
+        };
+        return refusals::write_refusal(refused, routes);
     }
     let answer = run(
         style,

@@ -1,19 +1,18 @@
 // The line of a refusal.
-ghost use Rattle.std.specs.Prelude.{[], ◌∷◌, ◌≡◌};
+ghost use Rattle.std.specs.Prelude.{◌≡◌};
+ghost use Rattle.job.specs.Refused.{refused_numbers};
 ghost use Rattle.text.specs.Lines.{letter_x};
 ghost use Rattle.text.specs.LineReplies.{place_reply_of, line_reply};
 
-// Writes the line of a refusal with one number beside its own at the buffer's start, where there is room for it: the bytes written.
-pub fn write_refusal(number: u32, value: u64, buffer: &mut [u8]) -> usize
-    ensures { place_reply_of result buffer.new ≡ line_reply letter_x (number ∷ value ∷ []) 0 buffer.old }
-{
-    text::print_line(b'X', &[number as u64, value], buffer, 0)
-}
+use job::Refused;
 
-// The same with two numbers beside its own.
-pub fn write_refusal_of_two(number: u32, first: u64, second: u64, buffer: &mut [u8]) -> usize
-    ensures { let numbers = number ∷ first ∷ second ∷ [] in
-        place_reply_of result buffer.new ≡ line_reply letter_x numbers 0 buffer.old }
+// Writes the line of a refusal at the buffer's start, where there is room for it: the bytes written.
+pub fn write_refusal(refused: Refused, buffer: &mut [u8]) -> usize
+    ensures { place_reply_of result buffer.new ≡ line_reply letter_x (refused_numbers refused) 0 buffer.old }
 {
-    text::print_line(b'X', &[number as u64, first, second], buffer, 0)
+    let number = refused.number as u64;
+    match refused.second {
+        Some(second) => text::print_line(b'X', &[number, refused.first, second], buffer, 0),
+        None => text::print_line(b'X', &[number, refused.first], buffer, 0),
+    }
 }

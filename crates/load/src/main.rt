@@ -1,7 +1,7 @@
 // The program: a line `seed,nodes,nets` from standard input, the job's text or the line of its refusal to standard output.
 #![tactic(auto)]
 
-// Standard input and output, by their numbers.
+// Standard input and output, by their numbers: std's reader has no call that fills an array as far as the input goes, without a heap.
 const STDIN: i32 = 0;
 
 const STDOUT: i32 = 1;

@@ -26,7 +26,6 @@ use Rattle.search.specs.Priceable.{Weighable}
 use Rattle.search.specs.Turn.{Congestion, weighed_congestion, Turn, joins, stuck, turn, congested_at, price_at}
 use Rattle.search.proofs.BlockLaws.{kinds_some}
 use Rattle.search.proofs.PriceableLaws.{sinks-few}
-use Rattle.search.proofs.TableLaws.{sinks-all}
 use Rattle.job.specs.declared.Terms.{Terms}
 use Rattle.job.specs.Job.{Job, nodes, nets, job_of, sinks_between, net_sinks, net_criticalities}
 use Rattle.negotiation.specs.Order.{place_due, sink_due, sinks_tried, weighting_due, turn_sinks, turn_weighting, turn_congestion}
@@ -38,12 +37,13 @@ use Rattle.negotiation.specs.Outcome.{iterations_left}
 use Rattle.negotiation.specs.Steps.{SameFrom, TurnReady, turn_count, CanTurn, Skipped, Overflows, TurnLogged, TurnDone}
 use Rattle.negotiation.specs.Kept.{Tallied}
 use Rattle.negotiation.specs.declared.tariff.Tariff.{Tariff}
-use Rattle.negotiation.specs.declared.turns.TurnMade.{TurnMade}
-use Rattle.negotiation.specs.declared.turns.TurnMade.TheVariants.{Nothing, Full, Logged}
+use Rattle.negotiation.specs.declared.turns.NoRoom.{NoRoom}
+use Rattle.std.specs.Prelude.{Option, Some, None, Result, Ok, Err}
+use Rattle.std.specs.Option.{unwrap_or}
 use Rattle.negotiation.proofs.OrderLaws.{untimed-sinks, timed_sinks, weighting_timed, criticality_low, turn-nodes}
 use Rattle.negotiation.proofs.NextTriedLaws.{part_at, tried_alike, weighting_alike}
 use Rattle.negotiation.proofs.StateLaws.{nets-factor}
-use Rattle.negotiation.proofs.RoutableLaws.{sinks-searched}
+use Rattle.negotiation.proofs.RoutableLaws.{sinks_listed, sinks-searched}
 use Rattle.negotiation.proofs.RecordLaws.{records-few}
 use Rattle.negotiation.proofs.NetLaws.{StateReady, state-ready, weighed-bounds, tree-more}
 use Rattle.negotiation.proofs.KeepLaws.{start_of, reached, Under, AtTurn, AtIdle, AtTurns}
@@ -98,7 +98,7 @@ module _ (j : Job) (sound : Routable j) (i : ℕ) (hi : i < nets j) (tree : List
       (λ w.
       rw (timed_sinks j i tree w) (le_trans (due-short (λ s. has s tree) (net_sinks j i) (net_criticalities j i)) (omega arith)))
       (λ w. rw (untimed-sinks j i tree w) (sinks-few (nodes j) (net_sinks j i) (sinks-searched j sound i hi))) in
-      sinks-all (nodes j) (turn_sinks j i tree) (length (turn_sinks j i tree)) few (omega arith) (turn-nodes j sound i hi tree)
+      sinks_listed (nodes j) (turn_sinks j i tree) few (turn-nodes j sound i hi tree)
 
   module _ {delays cs : List ℕ} (lent : Lent j delays cs) {marks : List ℕ} (marked : marks ≡ marks_of j tree) where
     -- a sink's mark says whether the tree has it
@@ -406,20 +406,24 @@ module _ (j : Job) (sound : Routable j) {p : Progress} {work₀ log₀ : List �
   call_turn = keep_can j sound enough at_more lent
 
   -- what the attempt at a turn did, by its cases
-  module _ (work' log' marks' : List ℕ) (kept : SameFrom (8 * nodes j) work work') (made : TurnMade)
+  module _ (work' log' marks' : List ℕ) (kept : SameFrom (8 * nodes j) work work') (made : Result (Option Tariff) NoRoom)
       (done : TurnDone made (turn_by j i marks cs delays t history users) (count_by j i marks cs delays t history users) t i (tried_by j i marks cs) log marks log' marks') where
-    case : (r : TurnMade) → made ≡ r → TurnDone r (turn_by j i marks cs delays t history users) (count_by j i marks cs delays t history users) t i (tried_by j i marks cs) log marks log' marks'
-    case r e = subst (λ (x : TurnMade). TurnDone x (turn_by j i marks cs delays t history users) (count_by j i marks cs delays t history users) t i (tried_by j i marks cs) log marks log' marks') e done
+    case : (r : Result (Option Tariff) NoRoom) → made ≡ r → TurnDone r (turn_by j i marks cs delays t history users) (count_by j i marks cs delays t history users) t i (tried_by j i marks cs) log marks log' marks'
+    case r e = subst (λ (x : Result (Option Tariff) NoRoom). TurnDone x (turn_by j i marks cs delays t history users) (count_by j i marks cs delays t history users) t i (tried_by j i marks cs) log marks log' marks') e done
 
-    pub after_nothing : made ≡ Nothing → (t'' : Tariff) → t'' ≡ t → AtTurns j p work₀ log₀ m i (left - 1) t'' history users marks' from to dues work' log' first
+    pub after_nothing : made ≡ Ok None → (t'' : Tariff) → t'' ≡ t → AtTurns j p work₀ log₀ m i (left - 1) t'' history users marks' from to dues work' log' first
     after_nothing e t'' q =
         subst (λ (x : Tariff). AtTurns j p work₀ log₀ m i (left - 1) x history users marks' from to dues work' log' first) (sym q)
-        (inr (keep_skipped j sound enough at_more lent work' log' marks' kept (case Nothing e)))
+        (inr (keep_skipped j sound enough at_more lent work' log' marks' kept (case (Ok None) e)))
 
-    pub after-logged : (t' : Tariff) → made ≡ Logged t' → (t'' : Tariff) → t'' ≡ t' → AtTurns j p work₀ log₀ m i (left - 1) t'' history users marks' from to dues work' log' first
+    pub after-logged : (t' : Tariff) → made ≡ Ok (Some t') → (t'' : Tariff) → t'' ≡ t' → AtTurns j p work₀ log₀ m i (left - 1) t'' history users marks' from to dues work' log' first
     after-logged t' e t'' q =
         subst (λ (x : Tariff). AtTurns j p work₀ log₀ m i (left - 1) x history users marks' from to dues work' log' first) (sym q)
-        (inr (keep_logged j sound enough at_more lent work' log' marks' kept t' (case (Logged t') e)))
+        (inr (keep_logged j sound enough at_more lent work' log' marks' kept t' (case (Ok (Some t')) e)))
 
-    pub overflows : made ≡ Full → Overflows (turn_of j (congestion_for j (reached j p m i).state i) i (tree_from j i at_more.made)) t log log'
-    overflows e = subst (λ (u : Turn). Overflows u t log log') (keep_turn j sound enough at_more lent) (case Full e)
+    pub after_turn : (o : Option Tariff) → made ≡ Ok o → (t'' : Tariff) → t'' ≡ unwrap_or o t → AtTurns j p work₀ log₀ m i (left - 1) t'' history users marks' from to dues work' log' first
+    after_turn None e t'' q = after_nothing e t'' q
+    after_turn (Some t') e t'' q = after-logged t' e t'' q
+
+    pub overflows : {full : NoRoom} → made ≡ Err full → Overflows (turn_of j (congestion_for j (reached j p m i).state i) i (tree_from j i at_more.made)) t log log'
+    overflows {full} e = subst (λ (u : Turn). Overflows u t log log') (keep_turn j sound enough at_more lent) (case (Err full) e)

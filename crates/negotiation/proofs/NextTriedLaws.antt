@@ -25,7 +25,8 @@ use Rattle.negotiation.specs.OrderSteps.{SinksReady, TriedSinks}
 use Rattle.negotiation.specs.Steps.{CanTurn, turn_count, TurnDone}
 use Rattle.negotiation.specs.declared.order.Tried.{Tried}
 use Rattle.negotiation.specs.declared.tariff.Tariff.{Tariff}
-use Rattle.negotiation.specs.declared.turns.TurnMade.{TurnMade}
+use Rattle.negotiation.specs.declared.turns.NoRoom.{NoRoom}
+use Rattle.std.specs.Prelude.{Option, Some, None, Result, Ok, Err}
 use Rattle.negotiation.proofs.OrderLaws.{opened, falling_within, due-is}
 
 -- ---- the pass over the sinks
@@ -297,7 +298,7 @@ module _ {timed : Bool} {marks sinks cs : List ℕ} {from to : ℕ} {r : Tried} 
         (subst (λ (l : List ℕ). CanTurn b (prices due-weighting) t l marks work log) (sym lent_is) can)
 
     pub tried_done :
-        (made : TurnMade) (t : Tariff) (net : ℕ) (log log' marks' : List ℕ)
+        (made : Result (Option Tariff) NoRoom) (t : Tariff) (net : ℕ) (log log' marks' : List ℕ)
         → TurnDone made (turn b (price_at b (prices r.weighting)) marks lent) (turn_count t.aimed b (prices r.weighting) marks lent) t net lent log marks log' marks'
         → TurnDone made (turn b (price_at b (prices due-weighting)) marks due-sinks) (turn_count t.aimed b (prices due-weighting) marks due-sinks) t net due-sinks log marks log' marks'
     tried_done made t net log log' marks' done =

@@ -8,7 +8,13 @@ use native.Mathlib.Omega.{arith}
 use lib.Dec.{leb, ltb}
 use lib.ListN.{length, take}
 use borrow.Author.Tests.{le-leb, lt-leb, lt-ltb, le-ltb, leb-false, ltb-false}
-use Rattle.price.proofs.TestLaws.{by_test}
+use Rattle.std.specs.Prelude.{Option, Some, None, Result, Ok, Err}
+use Rattle.price.proofs.TestLaws.{by_test, true≢false}
+use Rattle.std.proofs.lemmas.Result.{err_from_is_err_and}
+use Rattle.std.specs.Result.{IsErrAnd}
+use Rattle.search.specs.Lent.{tested}
+use Rattle.search.specs.declared.BadTable.{BadTable as Bad}
+use Rattle.search.proofs.TestedLaws.{tested_bad}
 use Rattle.search.specs.Replies.{work_needed, cleared}
 use Rattle.job.specs.Job.{Job, nodes, nets}
 use Rattle.job.specs.Tables.{faulty_job, exceeds}
@@ -18,7 +24,7 @@ use Rattle.negotiation.specs.Records.{Record, decode_up_to, decode}
 use Rattle.negotiation.specs.Aimed.{expanded_after}
 use Rattle.negotiation.specs.AuditSteps.{job_refusal}
 use Rattle.negotiation.specs.declared.Outcome.{Outcome}
-use Rattle.negotiation.specs.declared.Outcome.TheVariants.{Accepted, Unreachable, LogFull, Limit, BadTable, ShortWork, Diverges, TooLarge, NotCheapest}
+use Rattle.negotiation.specs.declared.Outcome.TheVariants.{BadTable, ShortWork, TooLarge}
 use Rattle.negotiation.specs.declared.RouteAnswer.{RouteAnswer}
 use Rattle.negotiation.proofs.AimedCountLaws.{after-short}
 
@@ -46,16 +52,16 @@ module _ {R : Type 0} (refuse : List ℕ → List ℕ → R) (j : Job) (work : L
       pub tested-joined : work_needed (nodes j) ≤ length work → tested_by refuse j work run ≡ reached refuse (joined j) work run
       tested-joined enough = rw (lt-leb 1 (faulty_job j) sound, fits, le-ltb (length work) (work_needed (nodes j)) enough)
 
--- ---- the tests as one function makes them for all three calls: their numbers
+-- ---- the tests as one function makes them for all three calls
 
 -- what a job as it is given comes to by them
-abbrev by_numbers_lem : {R : Type 0} → (List ℕ → List ℕ → R) → List ℕ → R → List ℕ → R
-by_numbers_lem refuse work rest [] = rest
-by_numbers_lem refuse work rest (n ∷ ns) = refuse (n ∷ ns) work
+abbrev by_refusal : {R : Type 0} → (List ℕ → List ℕ → R) → List ℕ → R → Result (Unit {0}) Outcome → R
+by_refusal refuse work rest (Ok u) = rest
+by_refusal refuse work rest (Err outcome) = refuse (route_refusal outcome 0 0) work
 
 module _ {R : Type 0} (refuse : List ℕ → List ℕ → R) (j : Job) (work : List ℕ) (run : R) where
-  by_numbers : tested_by refuse j work run ≡ by_numbers_lem refuse work (reached refuse (joined j) work run) (job_refusal j (length work))
-  by_numbers =
+  tested_so : tested_by refuse j work run ≡ by_refusal refuse work (reached refuse (joined j) work run) (job_refusal j (length work))
+  tested_so =
       by_test (leb 1 (faulty_job j))
       (λ t. rw t)
       (λ t.
@@ -63,24 +69,12 @@ module _ {R : Type 0} (refuse : List ℕ → List ℕ → R) (j : Job) (work : L
       (λ x. rw (t, x))
       (λ x. by_test (ltb (length work) (work_needed (nodes j))) (λ w. rw (t, x, w)) (λ w. rw (t, x, w))))
 
-  -- an answer that tells a refusal has its numbers
-  told-refused : (r : Outcome) → (r ≡ Accepted → ⊥) → by_numbers_lem refuse work (reached refuse (joined j) work run) (route_refusal r 0 0) ≡ refuse (route_refusal r 0 0) work
-  told-refused Accepted other = absurd (other refl)
-  told-refused (Unreachable net place) other = refl
-  told-refused LogFull other = refl
-  told-refused (Limit over) other = refl
-  told-refused (BadTable table) other = refl
-  told-refused (ShortWork needed) other = refl
-  told-refused (Diverges word) other = refl
-  told-refused (TooLarge count limit) other = refl
-  told-refused (NotCheapest word cost least) other = refl
+  module _ {r : Result (Unit {0}) Outcome} (told : r ≡ job_refusal j (length work)) where
+    pub tests_refuse : {outcome : Outcome} → r ≡ Err outcome → tested_by refuse j work run ≡ refuse (route_refusal outcome 0 0) work
+    tests_refuse e = tested_so ∙ ap (by_refusal refuse work (reached refuse (joined j) work run)) (sym told ∙ e)
 
-  module _ (r : Outcome) (told : route_refusal r 0 0 ≡ job_refusal j (length work)) where
-    pub tests_refuse : (r ≡ Accepted → ⊥) → tested_by refuse j work run ≡ refuse (route_refusal r 0 0) work
-    tests_refuse other = by_numbers ∙ ap (by_numbers_lem refuse work (reached refuse (joined j) work run)) (sym told) ∙ told-refused r other
-
-    pub tests_accept : r ≡ Accepted → tested_by refuse j work run ≡ reached refuse (joined j) work run
-    tests_accept e = by_numbers ∙ ap (by_numbers_lem refuse work (reached refuse (joined j) work run)) (sym told ∙ ap (λ (o : Outcome). route_refusal o 0 0) e)
+    pub tests_accept : r ≡ Ok tt → tested_by refuse j work run ≡ reached refuse (joined j) work run
+    tests_accept e = tested_so ∙ ap (by_refusal refuse work (reached refuse (joined j) work run)) (sym told ∙ e)
 
 -- no table is faulty, the job isn't too large, and the work memory is enough
 pub record TestsPass (j : Job) (entries : ℕ) : Type 0 where
@@ -88,51 +82,60 @@ pub record TestsPass (j : Job) (entries : ℕ) : Type 0 where
   pub fits : exceeds (nodes j) j.terms ≡ false
   pub enough : work_needed (nodes j) ≤ entries
 
+abbrev is_ok : Result (Unit {0}) Outcome → Bool
+is_ok (Ok u) = true
+is_ok (Err outcome) = false
+
+-- an answer that is no refusal
+pub no_refusal : (r : Result (Unit {0}) Outcome) → ((outcome : Outcome) → r ≡ Err outcome → ⊥) → r ≡ Ok tt
+no_refusal (Ok u) other = refl
+no_refusal (Err outcome) other = absurd (other outcome refl)
+
 module _ (j : Job) (entries : ℕ) where
-  none_told : job_refusal j entries ≡ [] → TestsPass j entries
+  none_told : job_refusal j entries ≡ Ok tt → TestsPass j entries
   none_told q =
       by_test (leb 1 (faulty_job j))
-      (λ t.
-      let e : job_refusal j entries ≡ 5 ∷ faulty_job j ∷ [] = rw t in
-      let z : ◌≡◌ {A = ℕ} 0 1 = cc in
-      absurd (omega arith))
+      (λ t. let e : job_refusal j entries ≡ Err (BadTable (faulty_job j)) = rw t in absurd (true≢false (sym (ap is_ok q) ∙ ap is_ok e)))
       (λ t.
       by_test (exceeds (nodes j) j.terms)
-      (λ x.
-      let e : job_refusal j entries ≡ 15 ∷ nodes j ∷ j.terms.limit ∷ [] = rw (t, x) in
-      let z : ◌≡◌ {A = ℕ} 0 1 = cc in
-      absurd (omega arith))
+      (λ x. let e : job_refusal j entries ≡ Err (TooLarge (nodes j) j.terms.limit) = rw (t, x) in absurd (true≢false (sym (ap is_ok q) ∙ ap is_ok e)))
       (λ x.
       by_test (ltb entries (work_needed (nodes j)))
-      (λ w.
-      let e : job_refusal j entries ≡ 6 ∷ work_needed (nodes j) ∷ [] = rw (t, x, w) in
-      let z : ◌≡◌ {A = ℕ} 0 1 = cc in
-      absurd (omega arith))
+      (λ w. let e : job_refusal j entries ≡ Err (ShortWork (work_needed (nodes j))) = rw (t, x, w) in absurd (true≢false (sym (ap is_ok q) ∙ ap is_ok e)))
       (λ w.
       let none : faulty_job j < 1 = leb-false 1 (faulty_job j) t in
       record { tables = omega arith; fits = x; enough = ltb-false entries (work_needed (nodes j)) w })))
 
-  pub accepted_passes : (r : Outcome) → route_refusal r 0 0 ≡ job_refusal j entries → r ≡ Accepted → TestsPass j entries
-  accepted_passes r told e = none_told (sym told ∙ ap (λ (o : Outcome). route_refusal o 0 0) e)
+  pub accepted_passes : {r : Result (Unit {0}) Outcome} → r ≡ job_refusal j entries → r ≡ Ok tt → TestsPass j entries
+  accepted_passes told e = none_told (sym told ∙ e)
 
-  -- the numbers, test by test
+  -- the refusal, test by test
   module _ (table : ℕ) (is : table ≡ faulty_job j) where
-    pub table_numbers : 1 ≤ table → 5 ∷ table ∷ [] ≡ job_refusal j entries
-    table_numbers h = rw (le-leb 1 (faulty_job j) (subst (λ (k : ℕ). 1 ≤ k) is h), is)
+    pub table_told : 1 ≤ table → Err (BadTable table) ≡ job_refusal j entries
+    table_told h = rw (le-leb 1 (faulty_job j) (subst (λ (k : ℕ). 1 ≤ k) is h), is)
 
     module _ (none : table < 1) where
       fine : faulty_job j < 1
       fine = subst (λ (k : ℕ). k < 1) is none
 
-      pub large_numbers : exceeds (nodes j) j.terms ≡ true → 15 ∷ nodes j ∷ j.terms.limit ∷ [] ≡ job_refusal j entries
-      large_numbers x = rw (lt-leb 1 (faulty_job j) fine, x)
+      pub large_told : exceeds (nodes j) j.terms ≡ true → Err (TooLarge (nodes j) j.terms.limit) ≡ job_refusal j entries
+      large_told x = rw (lt-leb 1 (faulty_job j) fine, x)
 
       module _ (fits : exceeds (nodes j) j.terms ≡ false) where
-        pub work-numbers : entries < work_needed (nodes j) → 6 ∷ work_needed (nodes j) ∷ [] ≡ job_refusal j entries
-        work-numbers h = rw (lt-leb 1 (faulty_job j) fine, fits, lt-ltb entries (work_needed (nodes j)) h)
+        pub work-told : entries < work_needed (nodes j) → Err (ShortWork (work_needed (nodes j))) ≡ job_refusal j entries
+        work-told h = rw (lt-leb 1 (faulty_job j) fine, fits, lt-ltb entries (work_needed (nodes j)) h)
 
-        pub no_numbers : work_needed (nodes j) ≤ entries → [] ≡ job_refusal j entries
-        no_numbers h = rw (lt-leb 1 (faulty_job j) fine, fits, le-ltb entries (work_needed (nodes j)) h)
+        pub nothing_told : work_needed (nodes j) ≤ entries → Ok tt ≡ job_refusal j entries
+        nothing_told h = rw (lt-leb 1 (faulty_job j) fine, fits, le-ltb entries (work_needed (nodes j)) h)
+
+-- where tables are refused, the lowest that breaks its rule is told
+pub bad_told :
+    (j : Job) (entries : ℕ) {bad : Bad} (r : Result (Unit {0}) Outcome) → tested (faulty_job j) ≡ Err bad → IsErrAnd r (λ o. o ≡ BadTable bad.table)
+    → r ≡ job_refusal j entries
+bad_told j entries {bad} r e is =
+    let p = err_from_is_err_and r is in
+    let t = tested_bad (faulty_job j) e in
+    p.1 ∙ ap Err p.2 ∙ table_told j entries bad.table (sym t.0) (omega (arith, t.0, t.1))
 
 -- ---- what the router answers
 

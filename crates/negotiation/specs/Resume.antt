@@ -2,7 +2,7 @@
 -- leaves. The replay goes over the log's words with the machine's own steps, so what is rebuilt is a state of the machine. An audit
 -- (Audit.antt) is the same replay with two more questions: it is the test `audit` of these definitions, false where a log is taken up.
 -- Assumes nothing.
-use Rattle.std.specs.Prelude.{Bool, false, not, List, [], ◌∷◌, ◌++◌, ◌≡◌, ℕ, zero, suc, ◌+◌, ◌-◌, ◌/◌, ◌%◌, ◌^◌, ◌≤◌, ◌<◌, eqb, leb}
+use Rattle.std.specs.Prelude.{Option, Some, None, Bool, false, not, List, [], ◌∷◌, ◌++◌, ◌≡◌, ℕ, zero, suc, ◌+◌, ◌-◌, ◌/◌, ◌%◌, ◌^◌, ◌≤◌, ◌<◌, eqb, leb}
 use Rattle.std.specs.Prelude.{ltb, length, get_or, take, drop}
 use Rattle.price.specs.Test.{choose, both, either}
 use Rattle.price.specs.Lists.{every, neighbours, has, distinct}
@@ -18,8 +18,6 @@ use Rattle.negotiation.specs.Order.{turn_sinks, turn_congestion}
 use Rattle.negotiation.specs.Machine.{State, Progress, congestion_for, turn_of, tree_from, with_net, due, over_count, move_on, first_state}
 use Rattle.negotiation.specs.Machine.{records_after, settles_at}
 use Rattle.negotiation.specs.Outcome.{RouteReply, refused_reply, continued, negotiated, tested}
-use Rattle.negotiation.specs.declared.Start.{Start}
-use Rattle.negotiation.specs.declared.Start.TheVariants.{Anew, After}
 
 -- ---- one record
 
@@ -207,14 +205,14 @@ resumed_reply j (ends p) work log = refused_reply (14 ∷ length (encode p.recor
 resumed_reply j (not_cheapest p cost least) work log = refused_reply (14 ∷ length (encode p.records) ∷ []) (cleared (nodes j) [] work) log
 
 -- the reply of a run of joined nets that starts with iteration 1, or after the words used of a lent log
-abbrev pub run_from : Start → Job → List ℕ → List ℕ → RouteReply
-run_from Anew j work log = negotiated j work log
-run_from (After used) j work log = resumed_reply j (replay j used log) work log
+abbrev pub run_from : Option ℕ → Job → List ℕ → List ℕ → RouteReply
+run_from None j work log = negotiated j work log
+run_from (Some used) j work log = resumed_reply j (replay j used log) work log
 
 -- the records that are lent with such a start
-abbrev pub lent_records : Start → List ℕ → List Record
-lent_records Anew log = []
-lent_records (After used) log = decode (take used log)
+abbrev pub lent_records : Option ℕ → List ℕ → List Record
+lent_records None log = []
+lent_records (Some used) log = decode (take used log)
 
 -- "it comes after 7": the tests of a job as it is given come first, as `route` has them
 unfoldable pub resume_reply : Job → ℕ → List ℕ → List ℕ → RouteReply

@@ -1,7 +1,7 @@
 -- What the private functions that take up a lent log do: each record is tested in one pass over its path, with marks for the nodes of the
 -- tree and those passed, and goals for the sinks that the turn tries. Only their contracts cite this file: no caller has to believe it.
 -- Assumes nothing.
-use Rattle.std.specs.Prelude.{Bool, true, false, List, [], ◌∷◌, ◌≡◌, ℕ, ◌+◌, ◌*◌, ◌/◌, ◌%◌, ◌^◌, ◌≤◌, ◌<◌, eqb, leb, length, get_or, set}
+use Rattle.std.specs.Prelude.{Option, Some, None, Bool, true, false, List, [], ◌∷◌, ◌≡◌, ℕ, ◌+◌, ◌*◌, ◌/◌, ◌%◌, ◌^◌, ◌≤◌, ◌<◌, eqb, leb, length, get_or, set}
 use Rattle.price.specs.Bounds.{timed_nodes_most}
 use Rattle.price.specs.Test.{choose, both}
 use Rattle.search.specs.Block.{Block, nodes, has_edge}
@@ -11,8 +11,6 @@ use Rattle.search.specs.Turn.{Congestion, Turn}
 use Rattle.search.specs.Priceable.{PriceReady}
 use Rattle.negotiation.specs.Resume.{record_path, whole_record, ends_at, cost_of}
 use Rattle.job.specs.Steps.{Stored}
-use Rattle.negotiation.specs.declared.follow.PathCost.{PathCost}
-use Rattle.negotiation.specs.declared.follow.PathCost.TheVariants.{Cost, Strays}
 
 -- 1 for the last node of a path, else 0, by the nodes after it
 abbrev pub last_mark : List ℕ → ℕ
@@ -50,14 +48,14 @@ pub record PassReady (b : Block) (c : Congestion) (goals marks log : List ℕ) (
   pub few : to ≤ from + nodes b
 
 -- what a pass gives, as a list
-abbrev pub costs_of : PathCost → List ℕ
-costs_of (Cost cost) = cost ∷ []
-costs_of Strays = []
+abbrev pub costs_of : Option ℕ → List ℕ
+costs_of (Some cost) = cost ∷ []
+costs_of None = []
 
 -- the nodes of a path that passes are marked; one that strays may leave any marks
-abbrev pub PathMarked : PathCost → (path marks marks' : List ℕ) → Type 0
-PathMarked (Cost cost) path marks marks' = Stored 1 path marks marks'
-PathMarked Strays path marks marks' = Unit {0}
+abbrev pub PathMarked : Option ℕ → (path marks marks' : List ℕ) → Type 0
+PathMarked (Some cost) path marks marks' = Stored 1 path marks marks'
+PathMarked None path marks marks' = Unit {0}
 
 -- a cost is there, and the record's two words are those of it
 abbrev pub cost_is : List ℕ → List ℕ → Bool

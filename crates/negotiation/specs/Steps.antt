@@ -1,6 +1,6 @@
 -- What the private functions of the router do to its lists. Only their contracts cite this file: no caller has to believe it.
 -- Assumes nothing.
-use Rattle.std.specs.Prelude.{Bool, true, not, List, [], ◌∷◌, ◌++◌, ◌≡◌, ℕ, ◌+◌, ◌*◌, ◌-◌, ◌^◌, ◌≤◌, ◌<◌, eqb, ltb, length, get_or}
+use Rattle.std.specs.Prelude.{Option, Some, None, Result, Ok, Err, Bool, true, not, List, [], ◌∷◌, ◌++◌, ◌≡◌, ℕ, ◌+◌, ◌*◌, ◌-◌, ◌^◌, ◌≤◌, ◌<◌, eqb, ltb, length, get_or}
 use Rattle.std.specs.Prelude.{take, drop, set}
 use Rattle.std.proofs.Math.Seq.{slice}
 use Rattle.price.specs.Test.{choose, both, either}
@@ -14,18 +14,17 @@ use Rattle.search.specs.Aimed.{weight_at, expanded}
 use Rattle.search.specs.ByTarget.{ListsBack}
 use Rattle.search.specs.Replies.{node_sound, sink_list_sound}
 use Rattle.search.specs.Priceable.{Weighable}
-use Rattle.search.specs.declared.PathAnswer.{PathAnswer}
-use Rattle.search.specs.declared.PathAnswer.TheVariants.{Joins, Stuck, BadTable, ShortWork, BadNumber, TooLarge}
+use Rattle.search.specs.declared.Joins.{Joins}
+use Rattle.search.specs.declared.Back.{Back}
+use Rattle.search.specs.Lent.{back_in}
 use Rattle.job.specs.Job.{Job, nets, job_of}
 use Rattle.negotiation.specs.Routable.{Routable}
 use Rattle.negotiation.specs.Outcome.{unreachable_net, unreachable_place}
 use Rattle.negotiation.specs.TariffSteps.{logged_tariff}
 use Rattle.job.specs.declared.Terms.{Terms}
 use Rattle.negotiation.specs.declared.tariff.Tariff.{Tariff}
-use Rattle.negotiation.specs.declared.turns.TurnMade.{TurnMade}
-use Rattle.negotiation.specs.declared.turns.TurnMade.TheVariants.{Nothing, Full, Logged}
-use Rattle.negotiation.specs.declared.reach.Reach.{Reach}
-use Rattle.negotiation.specs.declared.reach.Reach.TheVariants.{All, Missing}
+use Rattle.negotiation.specs.declared.turns.NoRoom.{NoRoom}
+use Rattle.negotiation.specs.declared.reach.Missing.{Missing}
 use Rattle.negotiation.specs.Records.{record_of, words, encode, decode, path_nodes}
 use Rattle.job.specs.Steps.{AllBelow, Stored}
 
@@ -75,25 +74,9 @@ pub record TurnReady (b : Block) (c : Congestion) (marks work : List ℕ) : Type
 abbrev pub missing : Job → List ℕ
 missing j = choose (ltb (unreachable_net j) (nets j)) (unreachable_net j ∷ unreachable_place j ∷ []) []
 
-abbrev pub reach_numbers : Reach → List ℕ
-reach_numbers All = []
-reach_numbers (Missing net place) = net ∷ place ∷ []
-
--- tables 2, 9 and 10 and terms with which a job of these tables can be routed
-pub record RoutableWith (kinds first_edges edge_targets sources first_sinks sinks : List ℕ) : Type 0 where
-  pub capacities : List ℕ
-  pub delays : List ℕ
-  pub criticalities : List ℕ
-  pub terms : Terms
-  pub routable : Routable (job_of kinds capacities first_edges edge_targets sources first_sinks sinks delays criticalities terms)
-
--- the test answers for every tables 2, 9 and 10 and terms with which a job of these tables can be routed: whether a path is there depends
--- on none of them
-abbrev pub FirstMissing : (kinds first_edges edge_targets sources first_sinks sinks : List ℕ) → Reach → Type 0
-FirstMissing kinds first_edges edge_targets sources first_sinks sinks found =
-    (capacities delays criticalities : List ℕ) (terms : Terms)
-    → Routable (job_of kinds capacities first_edges edge_targets sources first_sinks sinks delays criticalities terms)
-    → reach_numbers found ≡ missing (job_of kinds capacities first_edges edge_targets sources first_sinks sinks delays criticalities terms)
+abbrev pub reach_numbers : Option Missing → List ℕ
+reach_numbers None = []
+reach_numbers (Some m) = m.net ∷ m.place ∷ []
 
 -- ---- a net's old and new tree
 
@@ -240,22 +223,18 @@ pub record TurnLogged (t : Turn) (expanded : ℕ) (tariff : Tariff) (net : ℕ) 
   pub tariff_is : tariff' ≡ logged_tariff tariff (6 + length path) expanded
 
 -- what a turn did, by cases
-abbrev pub TurnDone : (r : TurnMade) (t : Turn) (expanded : ℕ) (tariff : Tariff) (net : ℕ) (sinks log marks log' marks' : List ℕ) → Type 0
-TurnDone Nothing t expanded tariff net sinks log marks log' marks' = Skipped t log marks log' marks'
-TurnDone Full t expanded tariff net sinks log marks log' marks' = Overflows t tariff log log'
-TurnDone (Logged tariff') t expanded tariff net sinks log marks log' marks' =
+abbrev pub TurnDone : (r : Result (Option Tariff) NoRoom) (t : Turn) (expanded : ℕ) (tariff : Tariff) (net : ℕ) (sinks log marks log' marks' : List ℕ) → Type 0
+TurnDone (Ok None) t expanded tariff net sinks log marks log' marks' = Skipped t log marks log' marks'
+TurnDone (Err full) t expanded tariff net sinks log marks log' marks' = Overflows t tariff log log'
+TurnDone (Ok (Some tariff')) t expanded tariff net sinks log marks log' marks' =
     TurnLogged t expanded tariff net sinks log marks tariff' log' marks'
 
 -- what the search answers where nothing is refused: the turn, whose path stands at the beginning of the work slice; past 8 × nodes entries
 -- that stays
-abbrev pub PathFound : (n : ℕ) (t : Turn) (work : List ℕ) (r : PathAnswer) (work' : List ℕ) → Type 0
-PathFound n t work (Joins place cost count) work' =
-    (t ≡ joins place cost (take count work')) × (length (take count work') ≡ count) × SameFrom (8 * n) work work'
-PathFound n t work Stuck work' = (t ≡ stuck) × SameFrom (8 * n) work work'
-PathFound n t work (BadTable k) work' = ⊥
-PathFound n t work (ShortWork k) work' = ⊥
-PathFound n t work (BadNumber k) work' = ⊥
-PathFound n t work (TooLarge k) work' = ⊥
+abbrev pub PathFound : (n : ℕ) (t : Turn) (work : List ℕ) (r : Option Joins) (work' : List ℕ) → Type 0
+PathFound n t work (Some j) work' =
+    (t ≡ joins j.place j.cost (take j.length work')) × (length (take j.length work') ≡ j.length) × SameFrom (8 * n) work work'
+PathFound n t work None work' = (t ≡ stuck) × SameFrom (8 * n) work work'
 
 -- how many nodes a turn expands by the search that is chosen: none are counted with the plain one
 abbrev pub turn_count : Bool → Block → Congestion → (marks sinks : List ℕ) → ℕ
@@ -271,5 +250,5 @@ pub record CanTurn (b : Block) (c : Congestion) (tariff : Tariff) (sinks marks w
   pub few-expanded : tariff.expanded + block.nodes b < 2 ^ 64
 
 -- a search that aims is lent the block's edges by their target; the other one needs none
-abbrev pub BackLent : Bool → Block → (firsts sources : List ℕ) → Type 0
-BackLent aimed b firsts sources = aimed ≡ true → ListsBack b (graph_of b.kinds firsts sources)
+abbrev pub BackLent : Bool → Block → Back → Type 0
+BackLent aimed b back = aimed ≡ true → ListsBack b (back_in b.kinds back)

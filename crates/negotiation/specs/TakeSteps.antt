@@ -1,7 +1,7 @@
 -- What the private functions that take up a lent log leave: tariff and lists over the progress that the replay has reached. It is no value
 -- of the code, nor is the whole job within an iteration. Only their contracts cite this file: no caller has to believe it.
 -- Assumes nothing.
-use Rattle.std.specs.Prelude.{Bool, true, List, [], ◌∷◌, ◌++◌, ◌≡◌, ℕ, ◌+◌, ◌-◌, ◌≤◌, ◌<◌, eqb, leb, ltb, length, get_or}
+use Rattle.std.specs.Prelude.{Option, Some, None, Result, Ok, Err, Bool, true, List, [], ◌∷◌, ◌++◌, ◌≡◌, ℕ, ◌+◌, ◌-◌, ◌≤◌, ◌<◌, eqb, leb, ltb, length, get_or}
 use Rattle.std.proofs.Math.Seq.{slice}
 use Rattle.price.specs.Test.{choose, both, either}
 use Rattle.price.specs.Lists.{has, up_to}
@@ -24,15 +24,11 @@ use Rattle.negotiation.specs.ResumeSteps.{RecordReady, named_cost, turn_passes, 
 use Rattle.negotiation.specs.Steps.{TurnReady}
 use Rattle.negotiation.specs.Kept.{Kept, Tallied, CanGoOn, Ready}
 use Rattle.negotiation.specs.Runs.{Ran}
-use Rattle.negotiation.specs.declared.Start.{Start}
 use Rattle.job.specs.declared.Terms.{Terms}
 use Rattle.negotiation.specs.declared.tariff.Tariff.{Tariff}
-use Rattle.negotiation.specs.declared.take_up.Taken.{Taken}
-use Rattle.negotiation.specs.declared.take_up.Taken.TheVariants.{On, Off, Ends, NotCheapest}
+use Rattle.negotiation.specs.declared.take_up.Stopped.{Stopped}
+use Rattle.negotiation.specs.declared.take_up.Stopped.TheVariants.{Off, Ends, NotCheapest}
 use Rattle.negotiation.specs.declared.take_up.Told.{Told}
-use Rattle.negotiation.specs.declared.take_up.Tried.{Tried}
-use Rattle.negotiation.specs.declared.take_up.Tried.TheVariants as tried
-use Rattle.negotiation.specs.declared.take_up.Tried.TheVariants.{Strays, Follows}
 use Rattle.negotiation.specs.declared.take_up.Walk.{Walk}
 
 -- the lent log begins with the records of a run that can go on from p, and the tariff is that run's
@@ -48,28 +44,23 @@ pub record TakenTo (j : Job) (p : Progress) (t : Tariff) (log : List ℕ) : Type
 abbrev pub told_of : Tariff → (whole over : ℕ) → Told
 told_of t whole over = record { turns = t.turns; words = t.words; whole = whole; over = over }
 
--- what a net comes to where its next record doesn't follow, is missing or isn't cheapest: the iterations before this one are whole
-abbrev pub stopped_at : Tried → Tariff → ℕ → Taken
-stopped_at Strays t over = Off t.words
-stopped_at tried.Ends t over = Ends (told_of t (t.iteration - 1) over)
-stopped_at (tried.NotCheapest cost least) t over = NotCheapest (told_of t (t.iteration - 1) over) cost least
-stopped_at (Follows count) t over = On t
-
--- what a record of so many words comes to, 0 where it doesn't follow, at this cost
-unfoldable pub judged_as : (count cost least : ℕ) → Tried
-judged_as count cost least =
-    choose (eqb count 0) Strays (choose (ltb least cost) (tried.NotCheapest cost least) (Follows count))
+-- what a record of so many words, none where it doesn't follow, comes to at this cost: the iterations before this one are whole
+unfoldable pub judged_as : Tariff → (over : ℕ) → (count : Option ℕ) → (cost least : ℕ) → Result ℕ Stopped
+judged_as t over None cost least = Err (Off t.words)
+judged_as t over (Some count) cost least =
+    choose (ltb least cost) (Err (NotCheapest (told_of t (t.iteration - 1) over) cost least)) (Ok count)
 
 -- what the next record comes to, whose words are these: `ended` where there are none, `passes` where it follows
-unfoldable pub tried_as : (audit ended passes : Bool) (ws : List ℕ) (least : ℕ) → Tried
-tried_as audit ended passes ws least =
-    choose (both audit ended) tried.Ends (judged_as (choose passes (6 + get_or ws 5 0) 0) (named_cost ws) least)
+unfoldable pub tried_as : Tariff → Walk → (ended passes : Bool) (ws : List ℕ) (least : ℕ) → Result ℕ Stopped
+tried_as t walk ended passes ws least =
+    choose (both walk.audit ended) (Err (Ends (told_of t (t.iteration - 1) walk.over)))
+    (judged_as t walk.over (choose passes (Some (6 + get_or ws 5 0)) None) (named_cost ws) least)
 
 -- what a log comes to behind a whole iteration
-unfoldable pub whole_as : Bool → Tariff → (over limit len : ℕ) → Taken
+unfoldable pub whole_as : Bool → Tariff → (over limit len : ℕ) → Result Tariff Stopped
 whole_as audit t over limit len =
-    choose (both audit (leb len t.words)) (Ends (told_of t t.iteration over))
-    (choose (either (eqb over 0) (eqb t.iteration limit)) (Off t.words) (On t))
+    choose (both audit (leb len t.words)) (Err (Ends (told_of t t.iteration over)))
+    (choose (either (eqb over 0) (eqb t.iteration limit)) (Err (Off t.words)) (Ok t))
 
 -- the turn of the net whose sinks stand in table 7 from one place to below another: the sinks that it tries, and what prices it
 module _ (sinks delays criticalities : List ℕ) (timed : Bool) (from to : ℕ) (marks : List ℕ) where
@@ -133,16 +124,11 @@ pub record NetOpens (j : Job) (p : Progress) (i : ℕ) (delays criticalities : L
   pub users-is : users ≡ up_to (others_of j p.state.trees i) (nodes j)
   pub marks_is : marks ≡ marks_of j (source j i ∷ [])
 
--- it has done so in some job of these tables 1 to 4, 7, 9 and 10
-pub record SomeNet (kinds capacities first_edges edge_targets sinks delays criticalities : List ℕ) (timed : Bool) (from to i turns : ℕ)
-    (t : Tariff) (history users marks log : List ℕ) : Type 0 where
-  pub sources : List ℕ
-  pub first_sinks : List ℕ
-  pub terms : Terms
+-- it has done so behind some progress
+pub record SomeNet (j : Job) (delays criticalities : List ℕ) (timed : Bool) (from to i turns : ℕ) (t : Tariff)
+    (history users marks log : List ℕ) : Type 0 where
   pub progress : Progress
-  pub opens :
-      NetOpens (job_of kinds capacities first_edges edge_targets sources first_sinks sinks delays criticalities terms) progress i delays
-      criticalities timed from to turns t history users marks log
+  pub opens : NetOpens j progress i delays criticalities timed from to turns t history users marks log
 
 -- its turns follow: their tree is marked, and its source is on a path
 pub record NetOn (audit : Bool) (j : Job) (p : Progress) (i : ℕ) (t : Tariff) (marks log : List ℕ) : Type 0 where
@@ -167,22 +153,18 @@ pub record NetEnds (walk : Walk) (j : Job) (p : Progress) (i : ℕ) (log : List 
   pub told_at : ToldAt (p.records ++ made) p.state.iteration walk.over told
 
 -- what its turns come to
-abbrev pub NetTaken : Walk → Taken → (j : Job) (p : Progress) (i : ℕ) (marks log : List ℕ) → Type 0
-NetTaken walk (On t) j p i marks log = NetOn walk.audit j p i t marks log
-NetTaken walk (Off word) j p i marks log = replay_turns walk.audit j log i p (length (net_sinks j i)) [] ≡ off word
-NetTaken walk (Ends told) j p i marks log = NetEnds walk j p i log told ends
-NetTaken walk (NotCheapest told cost least) j p i marks log = NetEnds walk j p i log told (λ q. not_cheapest q cost least)
+abbrev pub NetTaken : Walk → Result Tariff Stopped → (j : Job) (p : Progress) (i : ℕ) (marks log : List ℕ) → Type 0
+NetTaken walk (Ok t) j p i marks log = NetOn walk.audit j p i t marks log
+NetTaken walk (Err (Off word)) j p i marks log = replay_turns walk.audit j log i p (length (net_sinks j i)) [] ≡ off word
+NetTaken walk (Err (Ends told)) j p i marks log = NetEnds walk j p i log told ends
+NetTaken walk (Err (NotCheapest told cost least)) j p i marks log = NetEnds walk j p i log told (λ q. not_cheapest q cost least)
 
--- in every such job
+-- behind every such progress
 abbrev pub NetAnswered :
-    Walk → (kinds capacities first_edges edge_targets sinks delays criticalities : List ℕ) (timed : Bool) (from to i turns : ℕ) (t : Tariff)
-    (history users marks log : List ℕ) (r : Taken) (marks' : List ℕ) → Type 0
-NetAnswered walk kinds capacities first_edges edge_targets sinks delays criticalities timed from to i turns t history users marks log r
-    marks' =
-    (sources first_sinks : List ℕ) (terms : Terms) (p : Progress)
-    → NetOpens (job_of kinds capacities first_edges edge_targets sources first_sinks sinks delays criticalities terms) p i delays
-    criticalities timed from to turns t history users marks log
-    → NetTaken walk r (job_of kinds capacities first_edges edge_targets sources first_sinks sinks delays criticalities terms) p i marks' log
+    Walk → (j : Job) (delays criticalities : List ℕ) (timed : Bool) (from to i turns : ℕ) (t : Tariff)
+    (history users marks log : List ℕ) (r : Result Tariff Stopped) (marks' : List ℕ) → Type 0
+NetAnswered walk j delays criticalities timed from to i turns t history users marks log r marks' =
+    (p : Progress) → NetOpens j p i delays criticalities timed from to turns t history users marks log → NetTaken walk r j p i marks' log
 
 -- ---- the nets of an iteration
 
@@ -193,15 +175,10 @@ pub record NetsOpen (j : Job) (p : Progress) (t : Tariff) (history users marks f
   pub kept : Kept j p history users marks from to
   pub due-is : dues ≡ up_to (λ k. choose (due j p.state k) 1 0) (nets j)
 
--- under some terms, in a timed job or not
-pub record SomeNets (kinds capacities first_edges edge_targets sources first_sinks sinks delays criticalities : List ℕ) (timed : Bool)
-    (t : Tariff) (history users marks from to dues log : List ℕ) : Type 0 where
-  pub terms : Terms
-  pub timed_is : timed ≡ terms.timed
+-- at some progress
+pub record SomeNets (j : Job) (t : Tariff) (history users marks from to dues log : List ℕ) : Type 0 where
   pub progress : Progress
-  pub open_so :
-      NetsOpen (job_of kinds capacities first_edges edge_targets sources first_sinks sinks delays criticalities terms) progress t history
-      users marks from to dues log
+  pub open_so : NetsOpen j progress t history users marks from to dues log
 
 -- its first nets follow, up to q in the same iteration
 pub record NetsOn (audit : Bool) (j : Job) (p : Progress) (i : ℕ) (t : Tariff) (history users marks from to log : List ℕ) : Type 0 where
@@ -218,24 +195,19 @@ pub record NetsEnd (walk : Walk) (j : Job) (p : Progress) (log : List ℕ) (told
   pub told_at : ToldAt progress.records p.state.iteration walk.over told
 
 -- what its nets come to
-abbrev pub NetsTaken : Walk → Taken → (j : Job) (p : Progress) (history users marks from to log : List ℕ) → Type 0
-NetsTaken walk (On t) j p history users marks from to log = NetsOn walk.audit j p (nets j) t history users marks from to log
-NetsTaken walk (Off word) j p history users marks from to log = replay_nets walk.audit j log p.state p.records (nets j) ≡ off word
-NetsTaken walk (Ends told) j p history users marks from to log = NetsEnd walk j p log told ends
-NetsTaken walk (NotCheapest told cost least) j p history users marks from to log =
+abbrev pub NetsTaken : Walk → Result Tariff Stopped → (j : Job) (p : Progress) (history users marks from to log : List ℕ) → Type 0
+NetsTaken walk (Ok t) j p history users marks from to log = NetsOn walk.audit j p (nets j) t history users marks from to log
+NetsTaken walk (Err (Off word)) j p history users marks from to log = replay_nets walk.audit j log p.state p.records (nets j) ≡ off word
+NetsTaken walk (Err (Ends told)) j p history users marks from to log = NetsEnd walk j p log told ends
+NetsTaken walk (Err (NotCheapest told cost least)) j p history users marks from to log =
     NetsEnd walk j p log told (λ q. not_cheapest q cost least)
 
--- under all such terms
+-- behind every such progress
 abbrev pub NetsAnswered :
-    Walk → (kinds capacities first_edges edge_targets sources first_sinks sinks delays criticalities : List ℕ) (timed : Bool) (t : Tariff)
-    (history users marks from to dues log : List ℕ) (r : Taken) (users' marks' from' to' : List ℕ) → Type 0
-NetsAnswered walk kinds capacities first_edges edge_targets sources first_sinks sinks delays criticalities timed t history users
-    marks from to dues log r users' marks' from' to' =
-    (terms : Terms) (p : Progress) → timed ≡ terms.timed
-    → NetsOpen (job_of kinds capacities first_edges edge_targets sources first_sinks sinks delays criticalities terms) p t history users
-    marks from to dues log
-    → NetsTaken walk r (job_of kinds capacities first_edges edge_targets sources first_sinks sinks delays criticalities terms) p history
-    users' marks' from' to' log
+    Walk → (j : Job) (t : Tariff) (history users marks from to dues log : List ℕ) (r : Result Tariff Stopped)
+    (users' marks' from' to' : List ℕ) → Type 0
+NetsAnswered walk j t history users marks from to dues log r users' marks' from' to' =
+    (p : Progress) → NetsOpen j p t history users marks from to dues log → NetsTaken walk r j p history users' marks' from' to' log
 
 -- ---- the iterations
 
@@ -252,17 +224,17 @@ pub record LogEnds (audit : Bool) (j : Job) (log : List ℕ) (told : Told) (answ
   pub told_at : ToldAt progress.records progress.state.iteration (over_count j progress.state.trees) told
 
 -- what a log comes to
-abbrev pub LogTaken : Bool → Taken → (j : Job) (history users marks from to dues log : List ℕ) → Type 0
-LogTaken audit (On t) j history users marks from to dues log = LogOn audit j t history users marks from to dues log
-LogTaken audit (Off word) j history users marks from to dues log = replay_from audit j log j.terms.limit (first_state j) [] ≡ off word
-LogTaken audit (Ends told) j history users marks from to dues log = LogEnds audit j log told ends
-LogTaken audit (NotCheapest told cost least) j history users marks from to dues log =
+abbrev pub LogTaken : Bool → Result Tariff Stopped → (j : Job) (history users marks from to dues log : List ℕ) → Type 0
+LogTaken audit (Ok t) j history users marks from to dues log = LogOn audit j t history users marks from to dues log
+LogTaken audit (Err (Off word)) j history users marks from to dues log = replay_from audit j log j.terms.limit (first_state j) [] ≡ off word
+LogTaken audit (Err (Ends told)) j history users marks from to dues log = LogEnds audit j log told ends
+LogTaken audit (Err (NotCheapest told cost least)) j history users marks from to dues log =
     LogEnds audit j log told (λ q. not_cheapest q cost least)
 
 -- ---- a run's start
 
 -- a run that starts so goes on from a progress after whole iterations, whose records are those lent, with the whole log
-pub record StartOn (start : Start) (j : Job) (t : Tariff) (history users marks from to dues log : List ℕ) : Type 0 where
+pub record StartOn (start : Option ℕ) (j : Job) (t : Tariff) (history users marks from to dues log : List ℕ) : Type 0 where
   pub progress : Progress
   pub is : (work : List ℕ) → run_from start j work log ≡ continued j progress work log
   pub ready : Ready j progress t history users marks from to dues log
@@ -271,19 +243,18 @@ pub record StartOn (start : Start) (j : Job) (t : Tariff) (history users marks f
   pub lent_is : progress.records ≡ lent_records start log
 
 -- the word at which a log is turned away
-abbrev pub words_at : Taken → ℕ
-words_at (On t) = t.words
+abbrev pub words_at : Stopped → ℕ
 words_at (Off word) = word
 words_at (Ends told) = told.words
 words_at (NotCheapest told cost least) = told.words
 
 -- the lent log is turned away at this word
-abbrev pub TurnedAway : ℕ → (start : Start) (j : Job) (log : List ℕ) → Type 0
+abbrev pub TurnedAway : ℕ → (start : Option ℕ) (j : Job) (log : List ℕ) → Type 0
 TurnedAway word start j log = (work : List ℕ) → run_from start j work log ≡ resumed_reply j (off word) work log
 
 -- what a start comes to: such a progress, or the lent log is turned away
-unfoldable pub Started : Taken → (start : Start) (j : Job) (history users marks from to dues log : List ℕ) → Type 0
-Started (On t) start j history users marks from to dues log = StartOn start j t history users marks from to dues log
-Started (Off word) start j history users marks from to dues log = TurnedAway word start j log
-Started (Ends told) start j history users marks from to dues log = TurnedAway told.words start j log
-Started (NotCheapest told cost least) start j history users marks from to dues log = TurnedAway told.words start j log
+unfoldable pub Started : Result Tariff Stopped → (start : Option ℕ) (j : Job) (history users marks from to dues log : List ℕ) → Type 0
+Started (Ok t) start j history users marks from to dues log = StartOn start j t history users marks from to dues log
+Started (Err (Off word)) start j history users marks from to dues log = TurnedAway word start j log
+Started (Err (Ends told)) start j history users marks from to dues log = TurnedAway told.words start j log
+Started (Err (NotCheapest told cost least)) start j history users marks from to dues log = TurnedAway told.words start j log

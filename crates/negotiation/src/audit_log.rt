@@ -1,6 +1,7 @@
 // An audit of a job of joined nets: refusal 7, then the log is followed, each turn held against the search.
 ghost use Rattle.std.specs.Prelude.{true, ◌≡◌, ◌*◌, ◌≤◌, length, take};
-ghost use Rattle.job.specs.Job.{job_of, nodes};
+ghost use Rattle.job.specs.Job.{nodes};
+ghost use Rattle.job.specs.Lent.{job_in};
 ghost use Rattle.negotiation.specs.Routable.{Routable};
 ghost use Rattle.negotiation.specs.Outcome.{first_progress, reached};
 ghost use Rattle.negotiation.specs.Kept.{Ready};
@@ -8,11 +9,11 @@ ghost use Rattle.negotiation.specs.Resume.{replay_by};
 ghost use Rattle.negotiation.specs.Audit.{audit_reply_of, refused_audit, audited_reply};
 ghost use Rattle.negotiation.specs.AuditSteps.{refused_audit_answer, told_answer, audit_answer};
 
-use crate::reach::Reach;
-use crate::take_up::{Taken, Told};
+use crate::reach::Missing;
+use crate::take_up::{Stopped, Told};
 use crate::tariff::Tariff;
 use crate::{AuditAnswer, Outcome, reach, take_up, turns};
-use job::{NETS_MOST, Terms};
+use job::{JobTables, NETS_MOST};
 use search::NODES_MOST;
 
 // The answer of an audit that is refused.
@@ -20,7 +21,7 @@ pub fn refused(outcome: Outcome) -> AuditAnswer
     ensures { result ≡ refused_audit_answer outcome }
 {
     AuditAnswer {
-        outcome: outcome,
+        outcome,
         turns: 0,
         whole: 0,
         over: 0,
@@ -32,7 +33,7 @@ fn told(outcome: Outcome, at: Told) -> AuditAnswer
     ensures { result ≡ told_answer outcome at }
 {
     AuditAnswer {
-        outcome: outcome,
+        outcome,
         turns: at.turns,
         whole: at.whole,
         over: at.over,
@@ -40,18 +41,18 @@ fn told(outcome: Outcome, at: Told) -> AuditAnswer
 }
 
 // The answer by what the log came to.
-fn answer(taken: Taken) -> AuditAnswer
+fn answer(taken: Result<Tariff, Stopped>) -> AuditAnswer
     ensures { result ≡ audit_answer taken }
 {
     match taken {
-        Taken::On(t) => refused(Outcome::Diverges(t.words as u64)),
-        Taken::Off(word) => refused(Outcome::Diverges(word as u64)),
-        Taken::Ends(at) => told(Outcome::Accepted, at),
-        Taken::NotCheapest { at, cost, least } => told(
+        Ok(t) => refused(Outcome::Diverges(t.words as u64)),
+        Err(Stopped::Off(word)) => refused(Outcome::Diverges(word as u64)),
+        Err(Stopped::Ends(at)) => told(Outcome::Accepted, at),
+        Err(Stopped::NotCheapest { at, cost, least }) => told(
             Outcome::NotCheapest {
                 word: at.words as u64,
-                cost: cost,
-                least: least,
+                cost,
+                least,
             },
             at,
         ),
@@ -60,16 +61,7 @@ fn answer(taken: Taken) -> AuditAnswer
 
 // The log is followed from lists and tariff of a run that begins.
 fn audit_from(
-    kind: &[u8],
-    capacity: &[u8],
-    first_edge: &[u32],
-    edge_target: &[u16],
-    source: &[u16],
-    first_sink: &[u32],
-    sink: &[u16],
-    delay: &[u16],
-    criticality: &[u8],
-    terms: Terms,
+    job: &JobTables,
     used: usize,
     begun: Tariff,
     history: &mut [u32],
@@ -81,30 +73,19 @@ fn audit_from(
     work: &mut [u64],
     log: &[u32],
 ) -> AuditAnswer
-    requires { let job = job_of kind.now capacity.now first_edge.now edge_target.now source.now first_sink.now sink.now
-        delay.now criticality.now terms in
-        Routable job × (8 * nodes job ≤ length work.old)
-        × Ready job (first_progress job) begun history.old users.old in_tree.old tree_from.old tree_to.old due.old
+    requires { let asked = job_in job.now in
+        Routable asked × (8 * nodes asked ≤ length work.old)
+        × Ready asked (first_progress asked) begun history.old users.old in_tree.old tree_from.old tree_to.old due.old
         (take used log.now) }
-    ensures { let job = job_of kind.now capacity.now first_edge.now edge_target.now
-        source.now first_sink.now sink.now delay.now criticality.now terms in
-        audit_reply_of result work.new ≡ audited_reply job (replay_by true job used log.now) work.old }
+    ensures { let asked = job_in job.now in
+        audit_reply_of result work.new ≡ audited_reply asked (replay_by true asked used log.now) work.old }
 {
     if log.len() < used {
-        turns::clear(work, 8 * kind.len());
+        turns::clear(work, 8 * job.block.kind.len());
         return refused(Outcome::Diverges(log.len() as u64));
     }
     let taken = take_up::take_up(
-        kind,
-        capacity,
-        first_edge,
-        edge_target,
-        source,
-        first_sink,
-        sink,
-        delay,
-        criticality,
-        terms,
+        job,
         true,
         begun,
         history,
@@ -116,35 +97,19 @@ fn audit_from(
         work,
         &log[..used],
     );
-    turns::clear(work, 8 * kind.len());
+    turns::clear(work, 8 * job.block.kind.len());
     answer(taken)
 }
 
 // The lists and the tariff of a run that begins, and the audit from there.
-fn audit_lists(
-    kind: &[u8],
-    capacity: &[u8],
-    first_edge: &[u32],
-    edge_target: &[u16],
-    source: &[u16],
-    first_sink: &[u32],
-    sink: &[u16],
-    delay: &[u16],
-    criticality: &[u8],
-    terms: Terms,
-    used: usize,
-    work: &mut [u64],
-    log: &[u32],
-) -> AuditAnswer
-    requires { let job = job_of kind.now capacity.now first_edge.now edge_target.now source.now first_sink.now sink.now
-        delay.now criticality.now terms in
-        Routable job × (8 * nodes job ≤ length work.old) }
-    ensures { let job = job_of kind.now capacity.now first_edge.now edge_target.now
-        source.now first_sink.now sink.now delay.now criticality.now terms in
-        audit_reply_of result work.new ≡ audited_reply job (replay_by true job used log.now) work.old }
+fn audit_lists(job: &JobTables, used: usize, work: &mut [u64], log: &[u32]) -> AuditAnswer
+    requires { let asked = job_in job.now in
+        Routable asked × (8 * nodes asked ≤ length work.old) }
+    ensures { let asked = job_in job.now in
+        audit_reply_of result work.new ≡ audited_reply asked (replay_by true asked used log.now) work.old }
 {
-    let n = kind.len();
-    let nets = source.len();
+    let n = job.block.kind.len();
+    let nets = job.source.len();
     let mut history = [1u32; NODES_MOST];
     let mut users = [0u16; NODES_MOST];
     let mut in_tree = [0u8; NODES_MOST];
@@ -160,16 +125,7 @@ fn audit_lists(
         expanded: 0,
     };
     audit_from(
-        kind,
-        capacity,
-        first_edge,
-        edge_target,
-        source,
-        first_sink,
-        sink,
-        delay,
-        criticality,
-        terms,
+        job,
         used,
         begun,
         &mut history[..n],
@@ -184,59 +140,18 @@ fn audit_lists(
 }
 
 // Audits the log of a job of joined nets: refusal 7, then its turns.
-pub fn audit_joined(
-    kind: &[u8],
-    capacity: &[u8],
-    first_edge: &[u32],
-    edge_target: &[u16],
-    source: &[u16],
-    first_sink: &[u32],
-    sink: &[u16],
-    delay: &[u16],
-    criticality: &[u8],
-    terms: Terms,
-    used: usize,
-    work: &mut [u64],
-    log: &[u32],
-) -> AuditAnswer
-    requires { let job = job_of kind.now capacity.now first_edge.now edge_target.now source.now first_sink.now sink.now
-        delay.now criticality.now terms in
-        Routable job × (8 * nodes job ≤ length work.old) }
-    ensures { let job = job_of kind.now capacity.now first_edge.now edge_target.now
-        source.now first_sink.now sink.now delay.now criticality.now terms in
-        let run = audited_reply job (replay_by true job used log.now) work.old in
-        audit_reply_of result work.new ≡ reached refused_audit job work.old run }
+pub fn audit_joined(job: &JobTables, used: usize, work: &mut [u64], log: &[u32]) -> AuditAnswer
+    requires { let asked = job_in job.now in
+        Routable asked × (8 * nodes asked ≤ length work.old) }
+    ensures { let asked = job_in job.now in
+        let run = audited_reply asked (replay_by true asked used log.now) work.old in
+        audit_reply_of result work.new ≡ reached refused_audit asked work.old run }
 {
-    match reach::unreachable(
-        kind,
-        first_edge,
-        edge_target,
-        source,
-        first_sink,
-        sink,
-        work,
-    ) {
-        Reach::Missing { net, place } => {
-            turns::clear(work, 8 * kind.len());
-            refused(Outcome::Unreachable {
-                net: net,
-                place: place,
-            })
+    match reach::unreachable(job, work) {
+        Some(Missing { net, place }) => {
+            turns::clear(work, 8 * job.block.kind.len());
+            refused(Outcome::Unreachable { net, place })
         }
-        Reach::All => audit_lists(
-            kind,
-            capacity,
-            first_edge,
-            edge_target,
-            source,
-            first_sink,
-            sink,
-            delay,
-            criticality,
-            terms,
-            used,
-            work,
-            log,
-        ),
+        None => audit_lists(job, used, work, log),
     }
 }

@@ -13,12 +13,10 @@ pub fn over_count(capacity: &[u8], users: &[u16]) -> u32
         result ≡ count_below over (length capacity.now) }
 {
     let mut over = 0;
-    let mut v = 0;
-    while v < capacity.len() {
+    for v in 0..capacity.len() {
         if (capacity[v] as u16) < users[v] {
             over += 1;
         }
-        v += 1;
     }
     over
 }
@@ -31,9 +29,7 @@ pub fn grow_histories(g: Tuning, capacity: &[u8], users: &[u16], history: &mut [
         let grown : (ℕ → ℕ) = λ v. next_history g (get_or old v 0) (get_or users.now v 0) (get_or capacity.now v 0) in
         history.new ≡ up_to grown (length old) }
 {
-    let mut v = 0;
-    while v < history.len() {
+    for v in 0..history.len() {
         history[v] = price::next_history(g, history[v], users[v] as u32, capacity[v] as u32) as u32;
-        v += 1;
     }
 }

@@ -9,7 +9,7 @@ ghost use Rattle.job.specs.Steps.{AllBelow};
 ghost use Rattle.negotiation.specs.Steps.{Whole, some_over, takes, DueReady};
 
 use crate::tariff::Tariff;
-use job::Terms;
+use job::{JobTables, Terms};
 
 // Every net that has sinks is due: under rule 1, and up to the iteration after which rule 2 is followed.
 fn all_due(terms: Terms, iteration: u32) -> bool
@@ -27,13 +27,11 @@ fn path_crowded(log: &[u32], from: usize, to: usize, capacity: &[u8], users: &[u
     requires all_below { AllBelow (length users.now) (slice from to log.now) }
     ensures { result ≡ some_over capacity.now users.now (slice from to log.now) }
 {
-    let mut k = from;
-    while k < to {
+    for k in from..to {
         let v = log[k] as usize;
         if (capacity[v] as u16) < users[v] {
             return true;
         }
-        k += 1;
     }
     false
 }
@@ -60,21 +58,19 @@ fn records_crowded(log: &[u32], from: usize, until: usize, capacity: &[u8], user
 // two places, is crowded.
 fn due_mark(
     all: bool,
-    capacity: &[u8],
-    first_sink: &[u32],
+    job: &JobTables,
     log: &[u32],
     tree_from: &[usize],
     tree_to: &[usize],
     users: &[u16],
     net: usize,
 ) -> u8
-    requires due_ready { DueReady capacity.now first_sink.now log.now tree_from.now tree_to.now users.now }
+    requires due_ready { DueReady job.now.block.capacity.now job.now.first_sink.now log.now tree_from.now tree_to.now users.now }
     requires net_in_bounds { net < length tree_from.now }
-    ensures { let taken = takes all capacity.now first_sink.now log.now tree_from.now
-        tree_to.now users.now net in
+    ensures { let taken = takes all job.now.block.capacity.now job.now.first_sink.now log.now tree_from.now tree_to.now users.now net in
         result ≡ choose taken 1 0 }
 {
-    if first_sink[net + 1] <= first_sink[net] {
+    if job.first_sink[net + 1] <= job.first_sink[net] {
         return 0;
     }
     if all {
@@ -82,7 +78,7 @@ fn due_mark(
     }
     let from = tree_from[net];
     let to = tree_to[net];
-    if records_crowded(log, from, to, capacity, users) {
+    if records_crowded(log, from, to, job.block.capacity, users) {
         1
     } else {
         0
@@ -91,29 +87,23 @@ fn due_mark(
 
 // Marks the nets that the iteration takes, by what stands at its start.
 pub fn mark_due(
-    terms: Terms,
+    job: &JobTables,
     tariff: Tariff,
-    capacity: &[u8],
-    first_sink: &[u32],
     log: &[u32],
     tree_from: &[usize],
     tree_to: &[usize],
     users: &[u16],
     due: &mut [u8],
 )
-    requires due_ready { DueReady capacity.now first_sink.now log.now tree_from.now tree_to.now users.now }
+    requires due_ready { DueReady job.now.block.capacity.now job.now.first_sink.now log.now tree_from.now tree_to.now users.now }
     requires due_len { length due.old ≡ length tree_from.now }
-    ensures { let all = all_due terms tariff.iteration in
-        let mark : (ℕ → ℕ) = λ k. choose (takes all capacity.now first_sink.now log.now
+    ensures { let all = all_due job.now.terms tariff.iteration in
+        let mark : (ℕ → ℕ) = λ k. choose (takes all job.now.block.capacity.now job.now.first_sink.now log.now
         tree_from.now tree_to.now users.now k) 1 0 in
         due.new ≡ up_to mark (length due.old) }
 {
-    let all = all_due(terms, tariff.iteration);
-    let mut net = 0;
-    while net < due.len() {
-        due[net] = due_mark(
-            all, capacity, first_sink, log, tree_from, tree_to, users, net,
-        );
-        net += 1;
+    let all = all_due(job.terms, tariff.iteration);
+    for net in 0..due.len() {
+        due[net] = due_mark(all, job, log, tree_from, tree_to, users, net);
     }
 }

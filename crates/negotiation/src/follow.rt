@@ -3,9 +3,10 @@ ghost use Rattle.std.specs.Prelude.{true, [], ◌∷◌, ◌≡◌, ◌+◌, ◌
 ghost use Rattle.std.proofs.Math.Seq.{slice};
 ghost use Rattle.price.specs.Test.{choose};
 ghost use Rattle.price.specs.Timed.{weighed_most};
-ghost use Rattle.search.specs.Block.{block_of, graph_of, has_edge};
+ghost use Rattle.search.specs.Block.{has_edge};
+ghost use Rattle.search.specs.Lent.{block_in, graph_in, congestion_in};
 ghost use Rattle.search.specs.Tables.{Graph};
-ghost use Rattle.search.specs.Turn.{weighed_congestion, price_at, turn};
+ghost use Rattle.search.specs.Turn.{price_at, turn};
 ghost use Rattle.search.specs.Replies.{sink_list_sound};
 ghost use Rattle.search.specs.Priceable.{PriceReady};
 ghost use Rattle.negotiation.specs.Resume.{record_path};
@@ -15,32 +16,23 @@ ghost use Rattle.negotiation.specs.ResumeSteps.{cost_is, named_cost, frame_follo
 ghost use Rattle.job.specs.Steps.{Stored};
 
 use crate::tariff::Tariff;
-use price::{PriceAnswer, Weighting};
-use search::PathAnswer;
+use price::{Numbers, Weighting};
+use search::{Prices, Tables};
 
 // 2^64 − 1, which no cost reaches.
 const FAR: u64 = 18446744073709551615;
 
-// What a pass over a path gives.
-#[derive(Clone, Copy)]
-pub enum PathCost {
-    Cost(u64),
-    Strays,
-}
-
 // There is an edge from node u to v.
-fn has_edge(kind: &[u8], first_edge: &[u32], edge_target: &[u16], u: usize, v: usize) -> bool
-    requires { Graph (graph_of kind.now first_edge.now edge_target.now) × (u < length kind.now) }
-    ensures { let graph = graph_of kind.now first_edge.now edge_target.now in
-        result ≡ has_edge graph u v }
+fn has_edge(tables: &Tables, u: usize, v: usize) -> bool
+    requires { Graph (graph_in tables.now) × (u < length tables.now.kind.now) }
+    ensures { result ≡ has_edge (graph_in tables.now) u v }
 {
-    let to = first_edge[u + 1] as usize;
-    let mut e = first_edge[u] as usize;
-    while e < to {
-        if edge_target[e] as usize == v {
+    let from = tables.first_edge[u] as usize;
+    let to = tables.first_edge[u + 1] as usize;
+    for e in from..to {
+        if tables.edge_target[e] as usize == v {
             return true;
         }
-        e += 1;
     }
     false
 }
@@ -57,30 +49,23 @@ fn delay_at(weighting: Weighting, delay: &[u16], v: usize) -> u32
 }
 
 // The price of node v.
-fn node_price(
-    kind: &[u8],
-    capacity: &[u8],
-    history: &[u32],
-    others: &[u16],
-    weighting: Weighting,
-    delay: &[u16],
-    factor: u32,
-    v: usize,
-) -> u64
-    requires { PriceReady kind.now capacity.now (weighed_congestion weighting delay.now factor history.now others.now) v }
-    ensures { let block = block_of kind.now capacity.now [] [] in
-        let congestion = weighed_congestion weighting delay.now factor history.now others.now in
-        (result ≡ price_at block congestion v) × (result ≤ weighed_most weighting) }
+fn node_price(tables: &Tables, prices: &Prices, v: usize) -> u64
+    requires { PriceReady tables.now.kind.now tables.now.capacity.now (congestion_in prices.now) v }
+    ensures { (result ≡ price_at (block_in tables.now) (congestion_in prices.now) v) × (result ≤ weighed_most prices.now.weighting) }
 {
-    let k = kind[v] as u32;
-    let c = capacity[v] as u32;
-    let h = history[v];
-    let o = others[v] as u32;
-    let d = delay_at(weighting, delay, v);
-    let PriceAnswer::Price(p) = price::weighed_price(weighting, k, factor, o, c, h, d) else {
+    let numbers = Numbers {
+        kind: tables.kind[v] as u32,
+        factor: prices.factor,
+        others: prices.others[v] as u32,
+        capacity: tables.capacity[v] as u32,
+        history: prices.history[v],
+    };
+    let d = delay_at(prices.weighting, prices.delay, v);
+    // Every number is within its bounds, so that it is no 0.
+    let Ok(price) = price::weighed_price(prices.weighting, numbers, d) else {
         return 0;
     };
-    p
+    price
 }
 
 // 1 where no node comes after the place before `next`, else 0.
@@ -91,22 +76,13 @@ fn last_mark(next: usize, to: usize) -> u8
 }
 
 // The step from node u to v goes along an edge to a node without a mark, which is a goal or not as `last` says.
-fn step_passes(
-    kind: &[u8],
-    first_edge: &[u32],
-    edge_target: &[u16],
-    goals: &[u8],
-    in_tree: &[u8],
-    u: usize,
-    v: usize,
-    last: u8,
-) -> bool
-    requires graph { Graph (graph_of kind.now first_edge.now edge_target.now) × (u < length kind.now) }
-    requires goals_len { (length goals.now ≡ length kind.now) × (length in_tree.now ≡ length kind.now) }
-    ensures { let graph = graph_of kind.now first_edge.now edge_target.now in
-        result ≡ step_passes graph goals.now in_tree.now u v last }
+fn step_passes(tables: &Tables, goals: &[u8], in_tree: &[u8], u: usize, v: usize, last: u8) -> bool
+    requires graph { Graph (graph_in tables.now) × (u < length tables.now.kind.now) }
+    requires goals_len { let nodes = length tables.now.kind.now in
+        (length goals.now ≡ nodes) × (length in_tree.now ≡ nodes) }
+    ensures { result ≡ step_passes (graph_in tables.now) goals.now in_tree.now u v last }
 {
-    if !has_edge(kind, first_edge, edge_target, u, v) {
+    if !has_edge(tables, u, v) {
         return false;
     }
     if in_tree[v] != 0 {
@@ -115,54 +91,43 @@ fn step_passes(
     goals[v] == last
 }
 
-// The cost of the path in the log from `from` to below `to`, whose nodes are marked. It strays unless its first node alone has a mark and
-// each step passes; then marks may be left behind.
+// The cost of the path in the log from `from` to below `to`, whose nodes are marked. None where it strays: its first node alone has a mark,
+// and each step passes, or else marks may be left behind.
 fn path_cost(
-    kind: &[u8],
-    capacity: &[u8],
-    first_edge: &[u32],
-    edge_target: &[u16],
-    weighting: Weighting,
-    delay: &[u16],
-    factor: u32,
-    history: &[u32],
-    users: &[u16],
+    tables: &Tables,
+    prices: &Prices,
     goals: &[u8],
     in_tree: &mut [u8],
     log: &[u32],
     from: usize,
     to: usize,
-) -> PathCost
-    requires { let block = block_of kind.now capacity.now first_edge.now edge_target.now in
-        let congestion = weighed_congestion weighting delay.now factor history.now users.now in
-        PassReady block congestion goals.now in_tree.old log.now from to }
-    ensures value { let block = block_of kind.now capacity.now first_edge.now edge_target.now in
-        let congestion = weighed_congestion weighting delay.now factor history.now users.now in
+) -> Option<u64>
+    requires { PassReady (block_in tables.now) (congestion_in prices.now) goals.now in_tree.old log.now from to }
+    ensures value { let block = block_in tables.now in
+        let congestion = congestion_in prices.now in
         let path = slice from to log.now in
         costs_of result ≡ pass_cost block (price_at block congestion) goals.now in_tree.old path }
     ensures path_marked { PathMarked result (slice from to log.now) in_tree.old in_tree.new }
 {
     let mut u = log[from] as usize;
-    if kind.len() <= u {
-        return PathCost::Strays;
+    if tables.kind.len() <= u {
+        return None;
     }
     if in_tree[u] != 1 {
-        return PathCost::Strays;
+        return None;
     }
     let mut cost: u64 = 0;
-    let mut k = from + 1;
-    while k < to {
+    for k in from + 1..to {
         let v = log[k] as usize;
         let last = last_mark(k + 1, to);
-        if !step_passes(kind, first_edge, edge_target, goals, in_tree, u, v, last) {
-            return PathCost::Strays;
+        if !step_passes(tables, goals, in_tree, u, v, last) {
+            return None;
         }
-        cost += node_price(kind, capacity, history, users, weighting, delay, factor, v);
+        cost += node_price(tables, prices, v);
         in_tree[v] = 1;
         u = v;
-        k += 1;
     }
-    PathCost::Cost(cost)
+    Some(cost)
 }
 
 // The words of a cost: its low and its high half stand in the record at `at`.
@@ -203,62 +168,35 @@ fn frame_follows(log: &[u32], at: usize, iteration: u32, net: u32, nodes: usize)
     log[at + 5 + count] == log[at + 2]
 }
 
-// The words of the record at the tariff's place, 0 where it doesn't follow; its path is marked.
+// The words of the record at the tariff's place, none where it doesn't follow; its path is marked.
 pub fn follow_turn(
-    kind: &[u8],
-    capacity: &[u8],
-    first_edge: &[u32],
-    edge_target: &[u16],
-    weighting: Weighting,
-    delay: &[u16],
+    tables: &Tables,
+    prices: &Prices,
     net: u32,
     tariff: Tariff,
-    history: &[u32],
-    users: &[u16],
     goals: &[u8],
     in_tree: &mut [u8],
     log: &[u32],
-) -> usize
-    requires { let block = block_of kind.now capacity.now first_edge.now edge_target.now in
-        let congestion = weighed_congestion weighting delay.now tariff.factor history.now users.now in
-        RecordReady block congestion goals.now in_tree.old log.now tariff.words }
-    ensures value { let block = block_of kind.now capacity.now first_edge.now edge_target.now in
-        let congestion = weighed_congestion weighting delay.now tariff.factor history.now users.now in
+) -> Option<usize>
+    requires { RecordReady (block_in tables.now) (congestion_in prices.now) goals.now in_tree.old log.now tariff.words }
+    ensures value { let block = block_in tables.now in
+        let congestion = congestion_in prices.now in
         let ws = drop tariff.words log.now in
         let passes = turn_passes block (price_at block congestion) goals.now in_tree.old tariff.iteration net ws in
-        result ≡ choose passes (6 + get_or ws 5 0) 0 }
+        result ≡ choose passes (Some (6 + get_or ws 5 0)) None }
     ensures stored { let ws = drop tariff.words log.now in
-        ((result ≡ 0 → ⊥) → Stored 1 (record_path ws) in_tree.old in_tree.new) }
+        ((result ≡ None → ⊥) → Stored 1 (record_path ws) in_tree.old in_tree.new) }
 {
     let at = tariff.words;
-    if !frame_follows(log, at, tariff.iteration, net, kind.len()) {
-        return 0;
+    if !frame_follows(log, at, tariff.iteration, net, tables.kind.len()) {
+        return None;
     }
     let to = at + 6 + log[at + 5] as usize;
-    let factor = tariff.factor;
-    match path_cost(
-        kind,
-        capacity,
-        first_edge,
-        edge_target,
-        weighting,
-        delay,
-        factor,
-        history,
-        users,
-        goals,
-        in_tree,
-        log,
-        at + 6,
-        to,
-    ) {
-        PathCost::Strays => 0,
-        PathCost::Cost(cost) => {
-            if !cost_is(log, at, cost) {
-                return 0;
-            }
-            to - at
-        }
+    let cost = path_cost(tables, prices, goals, in_tree, log, at + 6, to)?;
+    if cost_is(log, at, cost) {
+        Some(to - at)
+    } else {
+        None
     }
 }
 
@@ -273,52 +211,28 @@ pub fn named_cost(log: &[u32], at: usize) -> u64
 // The least cost of a path that a turn can take, FAR where it is stuck, and where none is asked for.
 pub fn least_cost(
     asked: bool,
-    kind: &[u8],
-    capacity: &[u8],
-    first_edge: &[u32],
-    edge_target: &[u16],
-    weighting: Weighting,
-    delay: &[u16],
-    factor: u32,
+    tables: &Tables,
+    prices: &Prices,
     work: &mut [u64],
-    history: &[u32],
-    users: &[u16],
     in_tree: &[u8],
     sinks: &[u16],
 ) -> u64
-    requires { let block = block_of kind.now capacity.now first_edge.now edge_target.now in
-        let congestion = weighed_congestion weighting delay.now factor history.now users.now in
-        TurnReady block congestion in_tree.now work.old × (sink_list_sound (length kind.now) sinks.now ≡ true) }
-    ensures value { let block = block_of kind.now capacity.now first_edge.now edge_target.now in
-        let congestion = weighed_congestion weighting delay.now factor history.now users.now in
-        let made = turn block (price_at block congestion) in_tree.now sinks.now in
+    requires { let nodes = length tables.now.kind.now in
+        TurnReady (block_in tables.now) (congestion_in prices.now) in_tree.now work.old × (sink_list_sound nodes sinks.now ≡ true) }
+    ensures value { let block = block_in tables.now in
+        let made = turn block (price_at block (congestion_in prices.now)) in_tree.now sinks.now in
         result ≡ least_asked asked made }
-    ensures same_from { SameFrom (8 * length kind.now) work.old work.new }
+    ensures same_from { SameFrom (8 * length tables.now.kind.now) work.old work.new }
 {
     if !asked {
         return FAR;
     }
-    let answer = search::cheapest_path(
-        kind,
-        capacity,
-        first_edge,
-        edge_target,
-        weighting,
-        delay,
-        factor,
-        work,
-        history,
-        users,
-        in_tree,
-        sinks,
-    );
-    let PathAnswer::Joins {
-        place,
-        cost,
-        length,
-    } = answer
-    else {
+    // Tables and numbers keep their rules: nothing is refused.
+    let Ok(joins) = search::cheapest_path(tables, prices, work, in_tree, sinks) else {
         return FAR;
     };
-    cost
+    match joins {
+        Some(joins) => joins.cost,
+        None => FAR,
+    }
 }

@@ -6,6 +6,7 @@ ghost use Rattle.negotiation.specs.JoinSteps.{Joinable, JoinRoom, nets_only, lis
 ghost use Rattle.negotiation.specs.JoinSteps.{with_listed, PlacesTaken, Placed, JoinedPlaces, JoinedTables};
 ghost use Rattle.job.specs.Steps.{AllBelow};
 
+use job::JobTables;
 use search::{NODES_MOST, SINKS_MOST};
 
 // Takes the places of table 7 from one to another, but for those whose sink is stamped already.
@@ -27,15 +28,13 @@ fn take_listed(
         seen.new places.new result }
 {
     let mut count = start;
-    let mut p = from;
-    while p < to {
+    for p in from..to {
         let s = sink[p] as usize;
         if seen[s] != stamp {
             seen[s] = stamp;
             places[count] = p as u16;
             count += 1;
         }
-        p += 1;
     }
     count
 }
@@ -88,10 +87,8 @@ fn join_one(
         return start;
     }
     let mut count = start;
-    let mut k = net;
-    while k < source.len() {
+    for k in net..source.len() {
         count = take_net(source, first_sink, sink, net, k, seen, places, count);
-        k += 1;
     }
     count
 }
@@ -111,13 +108,11 @@ fn join_nets(
 {
     let mut seen = [0u16; NODES_MOST];
     let mut count = 0;
-    let mut net = 0;
-    while net < source.len() {
+    for net in 0..source.len() {
         firsts[net] = count as u32;
         count = join_one(source, first_sink, sink, net, &mut seen, places, count);
-        net += 1;
     }
-    firsts[net] = count as u32;
+    firsts[source.len()] = count as u32;
     count
 }
 
@@ -127,11 +122,9 @@ fn gather(table: &[u16], places: &[u16], count: usize, entries: &mut [u16])
     requires all_below { AllBelow (length table.now) (take count places.now) }
     ensures { take count entries.new ≡ entries_at table.now (take count places.now) }
 {
-    let mut k = 0;
-    while k < count {
+    for k in 0..count {
         let p = places[k] as usize;
         entries[k] = table[p];
-        k += 1;
     }
 }
 
@@ -141,37 +134,34 @@ fn gather_bytes(table: &[u8], places: &[u16], count: usize, entries: &mut [u8])
     requires all_below { AllBelow (length table.now) (take count places.now) }
     ensures { take count entries.new ≡ entries_at table.now (take count places.now) }
 {
-    let mut k = 0;
-    while k < count {
+    for k in 0..count {
         let p = places[k] as usize;
         entries[k] = table[p];
-        k += 1;
     }
 }
 
 // Tables 6 and 7 of the joined nets, in a timed job table 10 too, each at the front of what is lent for it. Answers how many sinks there
 // are.
 pub fn joined_tables(
-    source: &[u16],
-    first_sink: &[u32],
-    sink: &[u16],
-    criticality: &[u8],
-    timed: bool,
+    job: &JobTables,
     firsts: &mut [u32],
     sinks: &mut [u16],
     criticalities: &mut [u8],
 ) -> usize
-    requires joinable { Joinable source.now first_sink.now sink.now }
-    requires source_in_bounds { (length source.now + 1 ≤ length firsts.old) × (length sink.now ≤ length sinks.old) }
-    requires criticality_len { (timed ≡ true → length criticality.now ≡ length sink.now) × (length sink.now ≤ length criticalities.old) }
-    ensures { JoinedTables source.now first_sink.now sink.now criticality.now timed
-        firsts.new sinks.new criticalities.new result }
+    requires joinable { let j = job.now in Joinable j.source.now j.first_sink.now j.sink.now }
+    requires source_in_bounds { let j = job.now in
+        (length j.source.now + 1 ≤ length firsts.old) × (length j.sink.now ≤ length sinks.old) }
+    requires criticality_len { let j = job.now in
+        (j.terms.timed ≡ true → length j.criticality.now ≡ length j.sink.now) × (length j.sink.now ≤ length criticalities.old) }
+    ensures { let j = job.now in
+        JoinedTables j.source.now j.first_sink.now j.sink.now j.criticality.now j.terms.timed firsts.new sinks.new
+        criticalities.new result }
 {
     let mut places = [0u16; SINKS_MOST];
-    let count = join_nets(source, first_sink, sink, firsts, &mut places);
-    gather(sink, &places, count, sinks);
-    if timed {
-        gather_bytes(criticality, &places, count, criticalities);
+    let count = join_nets(job.source, job.first_sink, job.sink, firsts, &mut places);
+    gather(job.sink, &places, count, sinks);
+    if job.terms.timed {
+        gather_bytes(job.criticality, &places, count, criticalities);
     }
     count
 }

@@ -6,6 +6,7 @@ ghost use Rattle.negotiation.specs.Steps.{RipReady, RippedUp, CountReady, TreeCo
 ghost use Rattle.negotiation.specs.Steps.{BeginReady, Begun, Idle, EndReady, Ended, Passed};
 
 use crate::trees;
+use job::JobTables;
 
 // The tree that stands in the log from `from` to below `to` is dropped: its nodes lose a user each.
 fn rip_up(log: &[u32], from: usize, to: usize, users: &mut [u16], in_tree: &mut [u8])
@@ -30,9 +31,8 @@ fn count_tree(log: &[u32], from: usize, to: usize, users: &mut [u16], in_tree: &
 
 // A net that is due drops its old tree and marks its source. The answer is how many turns it makes at most: none where it is not due.
 pub fn begin_net(
+    job: &JobTables,
     log: &[u32],
-    source: &[u16],
-    first_sink: &[u32],
     net: usize,
     due: &[u8],
     tree_from: &[usize],
@@ -40,21 +40,21 @@ pub fn begin_net(
     users: &mut [u16],
     in_tree: &mut [u8],
 ) -> usize
-    requires { BeginReady log.now source.now first_sink.now net due.now tree_from.now tree_to.now
+    requires { BeginReady log.now job.now.source.now job.now.first_sink.now net due.now tree_from.now tree_to.now
         users.old in_tree.old }
     ensures idle { get_or due.now net 0 ≡ 0
         → Idle result users.old in_tree.old users.new in_tree.new }
     ensures begun { (get_or due.now net 0 ≡ 0 → ⊥)
-        → Begun log.now source.now first_sink.now net tree_from.now tree_to.now
+        → Begun log.now job.now.source.now job.now.first_sink.now net tree_from.now tree_to.now
         users.old in_tree.old result users.new in_tree.new }
 {
     if due[net] == 0 {
         return 0;
     }
     rip_up(log, tree_from[net], tree_to[net], users, in_tree);
-    let s = source[net] as usize;
+    let s = job.source[net] as usize;
     in_tree[s] = 1;
-    (first_sink[net + 1] - first_sink[net]) as usize
+    (job.first_sink[net + 1] - job.first_sink[net]) as usize
 }
 
 // A net that is due counts its new tree, which stands in the log from `first` to below `until`, and keeps these two places.

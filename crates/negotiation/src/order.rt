@@ -6,6 +6,7 @@ ghost use Rattle.job.specs.Steps.{AllBelow};
 ghost use Rattle.negotiation.specs.Order.{place_due};
 ghost use Rattle.negotiation.specs.OrderSteps.{SinksReady, TriedSinks};
 
+use job::JobTables;
 use price::Weighting;
 
 // The sinks that a turn tries stand in table 7 from one place to below another.
@@ -25,8 +26,7 @@ fn place_due(sinks: &[u16], criticality: &[u8], in_tree: &[u8]) -> usize
     let mut due = sinks.len();
     // What a sink must have to come before the one found so far.
     let mut least: u8 = 0;
-    let mut place = 0;
-    while place < sinks.len() {
+    for place in 0..sinks.len() {
         let s = sinks[place] as usize;
         if in_tree[s] != 1 {
             if least <= criticality[place] {
@@ -34,34 +34,26 @@ fn place_due(sinks: &[u16], criticality: &[u8], in_tree: &[u8]) -> usize
                 least = criticality[place] + 1;
             }
         }
-        place += 1;
     }
     due
 }
 
 // What a turn tries of the sinks from one place of table 7 to below another, which are a net's.
-pub fn next_tried(
-    timed: bool,
-    sink: &[u16],
-    criticality: &[u8],
-    from: usize,
-    to: usize,
-    in_tree: &[u8],
-) -> Tried
-    requires { SinksReady timed sink.now criticality.now from to in_tree.now }
-    ensures { TriedSinks timed in_tree.now sink.now criticality.now from to result }
+pub fn next_tried(job: &JobTables, from: usize, to: usize, in_tree: &[u8]) -> Tried
+    requires { let j = job.now in SinksReady j.terms.timed j.sink.now j.criticality.now from to in_tree.now }
+    ensures { let j = job.now in TriedSinks j.terms.timed in_tree.now j.sink.now j.criticality.now from to result }
 {
-    if !timed {
+    if !job.terms.timed {
         return Tried {
             weighting: Weighting {
                 timed: false,
                 criticality: 0,
             },
-            from: from,
-            to: to,
+            from,
+            to,
         };
     }
-    let place = place_due(&sink[from..to], &criticality[from..to], in_tree);
+    let place = place_due(&job.sink[from..to], &job.criticality[from..to], in_tree);
     if place == to - from {
         return Tried {
             weighting: Weighting {
@@ -69,14 +61,14 @@ pub fn next_tried(
                 criticality: 0,
             },
             from: to,
-            to: to,
+            to,
         };
     }
     let at = from + place;
     Tried {
         weighting: Weighting {
             timed: true,
-            criticality: criticality[at] as u32,
+            criticality: job.criticality[at] as u32,
         },
         from: at,
         to: at + 1,

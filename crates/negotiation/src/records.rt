@@ -13,10 +13,8 @@ fn copy_path(work: &[u64], count: usize, log: &mut [u32], at: usize)
     ensures { let old = log.old in
         log.new ≡ take at old ++ (take count work.now ++ drop (at + count) old) }
 {
-    let mut k = 0;
-    while k < count {
+    for k in 0..count {
         log[at + k] = work[k] as u32;
-        k += 1;
     }
 }
 

@@ -2,8 +2,9 @@
 // each turn is held against the search too.
 ghost use Rattle.std.specs.Prelude.{◌≡◌, ℕ, ◌+◌, ◌*◌, ◌≤◌, ◌<◌, leb, length, drop};
 ghost use Rattle.price.specs.Test.{both};
-ghost use Rattle.search.specs.Block.{block_of};
-ghost use Rattle.job.specs.Job.{job_of, nodes};
+ghost use Rattle.search.specs.Lent.{block_in};
+ghost use Rattle.job.specs.Job.{nodes};
+ghost use Rattle.job.specs.Lent.{job_in};
 ghost use Rattle.negotiation.specs.Routable.{Routable};
 ghost use Rattle.negotiation.specs.Outcome.{first_progress};
 ghost use Rattle.job.specs.Steps.{AllBelow, Stored};
@@ -11,27 +12,25 @@ ghost use Rattle.negotiation.specs.Kept.{Ready};
 ghost use Rattle.negotiation.specs.Resume.{record_path};
 ghost use Rattle.negotiation.specs.Steps.{SameFrom};
 ghost use Rattle.negotiation.specs.ResumeSteps.{named_cost};
-ghost use Rattle.negotiation.specs.TakeSteps.{words_at, told_of, stopped_at, judged_as, tried_as, whole_as};
+ghost use Rattle.negotiation.specs.TakeSteps.{words_at, told_of, judged_as, tried_as, whole_as};
 ghost use Rattle.negotiation.specs.TakeSteps.{TryReady, tried_passes, tried_least};
 ghost use Rattle.negotiation.specs.TakeSteps.{SomeNet, NetAnswered, SomeNets, NetsAnswered, LogTaken};
-ghost use Rattle.negotiation.specs.declared.take_up.Taken.TheVariants.{On};
-ghost use Rattle.negotiation.specs.declared.take_up.Tried.TheVariants.{Follows};
 
 use crate::tariff::Tariff;
 use crate::{congestion, due, flood, follow, nets, order, tariff};
-use job::Terms;
-use search::NODES_MOST;
+use job::JobTables;
+use search::{NODES_MOST, Prices};
 
 // What is asked of a log besides that it follows the job: nothing where it is taken up, by an audit that each turn be a cheapest one. An
 // audit tells how many nodes were over capacity after the last whole iteration.
-#[derive(Clone, Copy)]
+#[derive(Clone, Copy, Debug, PartialEq, Eq)]
 pub struct Walk {
     pub audit: bool,
     pub over: u32,
 }
 
 // How far an audit came: turns and words before the record where it ended, whole iterations, nodes over capacity after the last of them.
-#[derive(Clone, Copy)]
+#[derive(Clone, Copy, Debug, PartialEq, Eq)]
 pub struct Told {
     pub turns: u64,
     pub words: usize,
@@ -39,11 +38,9 @@ pub struct Told {
     pub over: u32,
 }
 
-// What a log comes to.
-#[derive(Clone, Copy)]
-pub enum Taken {
-    // All of it follows: a run goes on from this tariff.
-    On(Tariff),
+// Why a log is followed no further.
+#[derive(Clone, Copy, Debug, PartialEq, Eq)]
+pub enum Stopped {
     // It stops following the job at this word.
     Off(usize),
     // An audit's words end here.
@@ -52,28 +49,14 @@ pub enum Taken {
     NotCheapest { at: Told, cost: u64, least: u64 },
 }
 
-// What the next record of a net comes to.
-#[derive(Clone, Copy)]
-enum Tried {
-    // It doesn't follow.
-    Strays,
-    // An audit's words end before it.
-    Ends,
-    // It follows at this cost, and the least cost is lower.
-    NotCheapest { cost: u64, least: u64 },
-    // It follows, with so many words.
-    Follows(usize),
-}
-
 // The word at which a log is turned away.
-pub fn words_at(taken: Taken) -> usize
-    ensures { result ≡ words_at taken }
+pub fn words_at(stopped: Stopped) -> usize
+    ensures { result ≡ words_at stopped }
 {
-    match taken {
-        Taken::On(t) => t.words,
-        Taken::Off(word) => word,
-        Taken::Ends(at) => at.words,
-        Taken::NotCheapest { at, cost, least } => at.words,
+    match stopped {
+        Stopped::Off(word) => word,
+        Stopped::Ends(at) => at.words,
+        Stopped::NotCheapest { at, cost, least } => at.words,
     }
 }
 
@@ -81,10 +64,7 @@ pub fn words_at(taken: Taken) -> usize
 fn ends_here(audit: bool, words: usize, len: usize) -> bool
     ensures { result ≡ both audit (leb len words) }
 {
-    if audit {
-        return len <= words;
-    }
-    false
+    audit && len <= words
 }
 
 // How far an audit came, by the tariff there.
@@ -94,25 +74,8 @@ fn came_to(t: Tariff, whole: u32, over: u32) -> Told
     Told {
         turns: t.turns,
         words: t.words,
-        whole: whole,
-        over: over,
-    }
-}
-
-// What a net comes to where its next record doesn't follow, is missing or isn't cheapest.
-fn stopped(tried: Tried, t: Tariff, over: u32) -> Taken
-    requires { 1 ≤ t.iteration }
-    ensures { result ≡ stopped_at tried t over }
-{
-    match tried {
-        Tried::Strays => Taken::Off(t.words),
-        Tried::Ends => Taken::Ends(came_to(t, t.iteration - 1, over)),
-        Tried::NotCheapest { cost, least } => Taken::NotCheapest {
-            at: came_to(t, t.iteration - 1, over),
-            cost: cost,
-            least: least,
-        },
-        Tried::Follows(count) => Taken::On(t),
+        whole,
+        over,
     }
 }
 
@@ -121,120 +84,90 @@ fn set_goals(sinks: &[u16], goals: &mut [u8])
     requires { AllBelow (length goals.old) sinks.now }
     ensures { Stored 1 sinks.now goals.old goals.new }
 {
-    let mut k = 0;
-    while k < sinks.len() {
-        goals[sinks[k] as usize] = 1;
-        k += 1;
+    for &s in sinks {
+        goals[s as usize] = 1;
     }
 }
 
-// What a record of so many words comes to, 0 where it doesn't follow, by the least cost of a turn.
-fn judged(log: &[u32], at: usize, count: usize, least: u64) -> Tried
-    requires { (count ≡ 0 → ⊥) → at + 6 ≤ length log.now }
-    ensures { result ≡ judged_as count (named_cost (drop at log.now)) least }
+// The words of the record at the tariff's place, given none where it doesn't follow, if its cost is a least cost of the turn.
+fn judged(
+    log: &[u32],
+    t: Tariff,
+    over: u32,
+    count: Option<usize>,
+    least: u64,
+) -> Result<usize, Stopped>
+    requires begun { 1 ≤ t.iteration }
+    requires whole { (count ≡ None → ⊥) → t.words + 6 ≤ length log.now }
+    ensures { result ≡ judged_as t over count (named_cost (drop t.words log.now)) least }
 {
-    if count == 0 {
-        return Tried::Strays;
-    }
-    let cost = follow::named_cost(log, at);
+    let Some(count) = count else {
+        return Err(Stopped::Off(t.words));
+    };
+    let cost = follow::named_cost(log, t.words);
     if least < cost {
-        return Tried::NotCheapest {
-            cost: cost,
-            least: least,
-        };
+        return Err(Stopped::NotCheapest {
+            at: came_to(t, t.iteration - 1, over),
+            cost,
+            least,
+        });
     }
-    Tried::Follows(count)
+    Ok(count)
 }
 
-// What the next record of a net, whose sinks stand in table 7 from one place to below another, comes to; the path of one that follows is
-// marked.
+// The words of the next record of a net, whose sinks stand in table 7 from one place to below another, or why the log stops before it; the
+// path of one that follows is marked.
 fn follow_tried(
-    kind: &[u8],
-    capacity: &[u8],
-    first_edge: &[u32],
-    edge_target: &[u16],
-    sink: &[u16],
-    delay: &[u16],
-    criticality: &[u8],
-    timed: bool,
+    job: &JobTables,
     from: usize,
     to: usize,
     net: u32,
     tariff: Tariff,
-    audit: bool,
+    walk: Walk,
     history: &[u32],
     users: &[u16],
     in_tree: &mut [u8],
     work: &mut [u64],
     log: &[u32],
-) -> Tried
-    requires { let block = block_of kind.now capacity.now first_edge.now edge_target.now in
-        TryReady block sink.now delay.now criticality.now timed from to tariff history.now users.now in_tree.old work.old
-        log.now }
-    ensures value { let block = block_of kind.now capacity.now first_edge.now edge_target.now in
+) -> Result<usize, Stopped>
+    requires begun { 1 ≤ tariff.iteration }
+    requires ready { let j = job.now in
+        TryReady (block_in j.block) j.sink.now j.delay.now j.criticality.now j.terms.timed from to tariff history.now users.now
+        in_tree.old work.old log.now }
+    ensures value { let j = job.now in
         let ws = drop tariff.words log.now in
-        let passes = tried_passes block sink.now delay.now criticality.now timed from to tariff net
+        let passes = tried_passes (block_in j.block) j.sink.now j.delay.now j.criticality.now j.terms.timed from to tariff net
         history.now users.now in_tree.old ws in
-        let least = tried_least block sink.now delay.now criticality.now timed from to tariff audit
+        let least = tried_least (block_in j.block) j.sink.now j.delay.now j.criticality.now j.terms.timed from to tariff walk.audit
         history.now users.now in_tree.old in
-        result ≡ tried_as audit (leb (length log.now) tariff.words) passes ws least }
+        result ≡ tried_as tariff walk (leb (length log.now) tariff.words) passes ws least }
     ensures stored { let ws = drop tariff.words log.now in
-        ((count : ℕ) → result ≡ Follows count → Stored 1 (record_path ws) in_tree.old in_tree.new) }
-    ensures same_from { SameFrom (8 * length kind.now) work.old work.new }
+        ((count : ℕ) → result ≡ Ok count → Stored 1 (record_path ws) in_tree.old in_tree.new) }
+    ensures same_from { SameFrom (8 * length job.now.block.kind.now) work.old work.new }
 {
-    if ends_here(audit, tariff.words, log.len()) {
-        return Tried::Ends;
+    if ends_here(walk.audit, tariff.words, log.len()) {
+        return Err(Stopped::Ends(came_to(tariff, tariff.iteration - 1, walk.over)));
     }
-    let n = kind.len();
+    let n = job.block.kind.len();
     let mut goals = [0u8; NODES_MOST];
-    let tried = order::next_tried(timed, sink, criticality, from, to, in_tree);
-    let a = tried.from;
-    let e = tried.to;
-    set_goals(&sink[a..e], &mut goals[..n]);
-    let factor = tariff.factor;
-    let least = follow::least_cost(
-        audit,
-        kind,
-        capacity,
-        first_edge,
-        edge_target,
-        tried.weighting,
-        delay,
-        factor,
-        work,
+    let tried = order::next_tried(job, from, to, in_tree);
+    let sinks = &job.sink[tried.from..tried.to];
+    set_goals(sinks, &mut goals[..n]);
+    let prices = Prices {
+        weighting: tried.weighting,
+        delay: job.delay,
+        factor: tariff.factor,
         history,
-        users,
-        in_tree,
-        &sink[a..e],
-    );
-    let count = follow::follow_turn(
-        kind,
-        capacity,
-        first_edge,
-        edge_target,
-        tried.weighting,
-        delay,
-        net,
-        tariff,
-        history,
-        users,
-        &goals[..n],
-        in_tree,
-        log,
-    );
-    judged(log, tariff.words, count, least)
+        others: users,
+    };
+    let least = follow::least_cost(walk.audit, &job.block, &prices, work, in_tree, sinks);
+    let count = follow::follow_turn(&job.block, &prices, net, tariff, &goals[..n], in_tree, log);
+    judged(log, tariff, walk.over, count, least)
 }
 
 // So many turns of a net, at most, until its sinks are joined.
 fn follow_net(
-    kind: &[u8],
-    capacity: &[u8],
-    first_edge: &[u32],
-    edge_target: &[u16],
-    sink: &[u16],
-    delay: &[u16],
-    criticality: &[u8],
-    timed: bool,
+    job: &JobTables,
     from: usize,
     to: usize,
     net: u32,
@@ -246,68 +179,40 @@ fn follow_net(
     in_tree: &mut [u8],
     work: &mut [u64],
     log: &[u32],
-) -> Taken
-    requires { 0 < turns
-        → SomeNet kind.now capacity.now first_edge.now edge_target.now sink.now delay.now criticality.now timed from to
-        net turns begun history.now users.now in_tree.old log.now × (8 * length kind.now ≤ length work.old) }
-    ensures value { turns ≡ 0 → (result ≡ On begun) × (in_tree.new ≡ in_tree.old) }
-    ensures net_answered { NetAnswered walk kind.now capacity.now first_edge.now edge_target.now
-        sink.now delay.now criticality.now timed from to net turns begun history.now
+) -> Result<Tariff, Stopped>
+    requires { let j = job.now in
+        (0 < turns
+        → SomeNet (job_in j) j.delay.now j.criticality.now j.terms.timed from to net turns begun history.now users.now
+        in_tree.old log.now × (8 * length j.block.kind.now ≤ length work.old)) }
+    ensures value { turns ≡ 0 → (result ≡ Ok begun) × (in_tree.new ≡ in_tree.old) }
+    ensures net_answered { let j = job.now in
+        NetAnswered walk (job_in j) j.delay.now j.criticality.now j.terms.timed from to net turns begun history.now
         users.now in_tree.old log.now result in_tree.new }
-    ensures same_from { SameFrom (8 * length kind.now) work.old work.new }
+    ensures same_from { SameFrom (8 * length job.now.block.kind.now) work.old work.new }
 {
     if turns == 0 {
-        return Taken::On(begun);
+        return Ok(begun);
     }
     let mut tariff = begun;
     let mut left = turns;
-    let mut place = flood::missing_sink(in_tree, &sink[from..to], 0);
+    let mut place = flood::missing_sink(in_tree, &job.sink[from..to], 0);
     while place < to - from {
         if left == 0 {
-            return Taken::Off(tariff.words);
+            return Err(Stopped::Off(tariff.words));
         }
-        let tried = follow_tried(
-            kind,
-            capacity,
-            first_edge,
-            edge_target,
-            sink,
-            delay,
-            criticality,
-            timed,
-            from,
-            to,
-            net,
-            tariff,
-            walk.audit,
-            history,
-            users,
-            in_tree,
-            work,
-            log,
-        );
-        let Tried::Follows(count) = tried else {
-            return stopped(tried, tariff, walk.over);
-        };
+        let count = follow_tried(
+            job, from, to, net, tariff, walk, history, users, in_tree, work, log,
+        )?;
         tariff = tariff::turn_logged(tariff, count, 0);
         left -= 1;
-        place = flood::missing_sink(in_tree, &sink[from..to], place);
+        place = flood::missing_sink(in_tree, &job.sink[from..to], place);
     }
-    Taken::On(tariff)
+    Ok(tariff)
 }
 
 // The nets of an iteration, in order.
 fn follow_nets(
-    kind: &[u8],
-    capacity: &[u8],
-    first_edge: &[u32],
-    edge_target: &[u16],
-    source: &[u16],
-    first_sink: &[u32],
-    sink: &[u16],
-    delay: &[u16],
-    criticality: &[u8],
-    timed: bool,
+    job: &JobTables,
     begun: Tariff,
     walk: Walk,
     history: &[u32],
@@ -318,89 +223,56 @@ fn follow_nets(
     due: &[u8],
     work: &mut [u64],
     log: &[u32],
-) -> Taken
-    requires { SomeNets kind.now capacity.now first_edge.now edge_target.now source.now first_sink.now sink.now
-        delay.now criticality.now timed begun history.now users.old in_tree.old tree_from.old tree_to.old due.now
-        log.now × (8 * length kind.now ≤ length work.old) }
-    ensures same_from { SameFrom (8 * length kind.now) work.old work.new }
-    ensures nets_answered { NetsAnswered walk kind.now capacity.now first_edge.now edge_target.now
-        source.now first_sink.now sink.now delay.now criticality.now timed begun
-        history.now users.old in_tree.old tree_from.old tree_to.old
-        due.now log.now result users.new in_tree.new tree_from.new
-        tree_to.new }
+) -> Result<Tariff, Stopped>
+    requires { SomeNets (job_in job.now) begun history.now users.old in_tree.old tree_from.old tree_to.old due.now log.now
+        × (8 * length job.now.block.kind.now ≤ length work.old) }
+    ensures same_from { SameFrom (8 * length job.now.block.kind.now) work.old work.new }
+    ensures nets_answered { NetsAnswered walk (job_in job.now) begun history.now users.old in_tree.old tree_from.old tree_to.old
+        due.now log.now result users.new in_tree.new tree_from.new tree_to.new }
 {
     let mut tariff = begun;
-    let mut net = 0;
-    while net < source.len() {
-        let from = first_sink[net] as usize;
-        let to = first_sink[net + 1] as usize;
+    for net in 0..job.source.len() {
+        let from = job.first_sink[net] as usize;
+        let to = job.first_sink[net + 1] as usize;
         let first = tariff.words;
-        let turns = nets::begin_net(
-            log, source, first_sink, net, due, tree_from, tree_to, users, in_tree,
-        );
-        let taken = follow_net(
-            kind,
-            capacity,
-            first_edge,
-            edge_target,
-            sink,
-            delay,
-            criticality,
-            timed,
-            from,
-            to,
-            net as u32,
-            tariff,
-            turns,
-            walk,
-            history,
-            users,
-            in_tree,
-            work,
-            log,
-        );
-        let Taken::On(t) = taken else {
-            return taken;
-        };
-        tariff = t;
+        let turns = nets::begin_net(job, log, net, due, tree_from, tree_to, users, in_tree);
+        tariff = follow_net(
+            job, from, to, net as u32, tariff, turns, walk, history, users, in_tree, work, log,
+        )?;
         let until = tariff.words;
         nets::end_net(
             log, net, first, until, due, users, in_tree, tree_from, tree_to,
         );
-        net += 1;
     }
-    Taken::On(tariff)
+    Ok(tariff)
 }
 
 // What a log comes to behind a whole iteration: an audit's words may end there; else a node is overfull, and the limit is not reached.
-fn whole_iteration(audit: bool, t: Tariff, over: u32, limit: u32, len: usize) -> Taken
+fn whole_iteration(
+    audit: bool,
+    t: Tariff,
+    over: u32,
+    limit: u32,
+    len: usize,
+) -> Result<Tariff, Stopped>
     ensures { result ≡ whole_as audit t over limit len }
 {
     if ends_here(audit, t.words, len) {
-        return Taken::Ends(came_to(t, t.iteration, over));
+        return Err(Stopped::Ends(came_to(t, t.iteration, over)));
     }
     let settled = over == 0;
     if settled {
-        return Taken::Off(t.words);
+        return Err(Stopped::Off(t.words));
     }
     if t.iteration == limit {
-        return Taken::Off(t.words);
+        return Err(Stopped::Off(t.words));
     }
-    Taken::On(t)
+    Ok(t)
 }
 
 // The iterations, up to the log's end.
 pub fn take_up(
-    kind: &[u8],
-    capacity: &[u8],
-    first_edge: &[u32],
-    edge_target: &[u16],
-    source: &[u16],
-    first_sink: &[u32],
-    sink: &[u16],
-    delay: &[u16],
-    criticality: &[u8],
-    terms: Terms,
+    job: &JobTables,
     audit: bool,
     begun: Tariff,
     history: &mut [u32],
@@ -411,63 +283,30 @@ pub fn take_up(
     due: &mut [u8],
     work: &mut [u64],
     log: &[u32],
-) -> Taken
-    requires { let job = job_of kind.now capacity.now first_edge.now edge_target.now source.now first_sink.now sink.now
-        delay.now criticality.now terms in
-        Routable job × (8 * nodes job ≤ length work.old)
-        × Ready job (first_progress job) begun history.old users.old in_tree.old tree_from.old tree_to.old due.old
+) -> Result<Tariff, Stopped>
+    requires { let asked = job_in job.now in
+        Routable asked × (8 * nodes asked ≤ length work.old)
+        × Ready asked (first_progress asked) begun history.old users.old in_tree.old tree_from.old tree_to.old due.old
         log.now }
-    ensures taken { let job = job_of kind.now capacity.now first_edge.now edge_target.now
-        source.now first_sink.now sink.now delay.now criticality.now
-        terms in
-        LogTaken audit result job history.new users.new in_tree.new tree_from.new
+    ensures taken { let asked = job_in job.now in
+        LogTaken audit result asked history.new users.new in_tree.new tree_from.new
         tree_to.new due.new log.now }
-    ensures same_from { SameFrom (8 * length kind.now) work.old work.new }
+    ensures same_from { SameFrom (8 * length job.now.block.kind.now) work.old work.new }
 {
     let mut tariff = begun;
     let mut over = 0u32;
     let mut more = true;
     while more {
-        due::mark_due(
-            terms, tariff, capacity, first_sink, log, tree_from, tree_to, users, due,
-        );
-        let walk = Walk {
-            audit: audit,
-            over: over,
-        };
-        let taken = follow_nets(
-            kind,
-            capacity,
-            first_edge,
-            edge_target,
-            source,
-            first_sink,
-            sink,
-            delay,
-            criticality,
-            terms.timed,
-            tariff,
-            walk,
-            history,
-            users,
-            in_tree,
-            tree_from,
-            tree_to,
-            due,
-            work,
-            log,
-        );
-        let Taken::On(t) = taken else {
-            return taken;
-        };
-        over = congestion::over_count(capacity, users);
-        let whole = whole_iteration(audit, t, over, terms.limit, log.len());
-        let Taken::On(next) = whole else {
-            return whole;
-        };
-        congestion::grow_histories(terms.tuning, capacity, users, history);
-        tariff = tariff::iteration_started(tariff::iteration_ended(next, terms.tuning));
+        due::mark_due(job, tariff, log, tree_from, tree_to, users, due);
+        let walk = Walk { audit, over };
+        let t = follow_nets(
+            job, tariff, walk, history, users, in_tree, tree_from, tree_to, due, work, log,
+        )?;
+        over = congestion::over_count(job.block.capacity, users);
+        let next = whole_iteration(audit, t, over, job.terms.limit, log.len())?;
+        congestion::grow_histories(job.terms.tuning, job.block.capacity, users, history);
+        tariff = tariff::iteration_started(tariff::iteration_ended(next, job.terms.tuning));
         more = tariff.words < log.len();
     }
-    Taken::On(tariff)
+    Ok(tariff)
 }

@@ -6,7 +6,7 @@ use price::Tuning;
 
 // What 01 calls the tariff: iteration, factor, turns made and words written. Request 2.13 adds which search makes the turns, and how many
 // nodes it has expanded.
-#[derive(Clone, Copy)]
+#[derive(Clone, Copy, Debug, PartialEq, Eq)]
 pub struct Tariff {
     pub iteration: u32,
     pub factor: u32,
@@ -21,9 +21,9 @@ fn log_turn(t: &mut Tariff, count: usize, expanded: u64)
     requires { (t.old.turns + 1 < 2 ^ 64) × (t.old.words + count < 2 ^ 64) × (t.old.expanded + expanded < 2 ^ 64) }
     ensures { t.new ≡ logged_tariff t.old count expanded }
 {
-    t.turns = t.turns + 1;
-    t.words = t.words + count;
-    t.expanded = t.expanded + expanded;
+    t.turns += 1;
+    t.words += count;
+    t.expanded += expanded;
 }
 
 // The iteration is over: the present congestion factor moves on.
@@ -38,7 +38,7 @@ fn start_iteration(t: &mut Tariff)
     requires { t.old.iteration + 1 < 2 ^ 32 }
     ensures { t.new ≡ started_tariff t.old }
 {
-    t.iteration = t.iteration + 1;
+    t.iteration += 1;
 }
 
 // A run goes on from here by this search: no nodes are counted yet.

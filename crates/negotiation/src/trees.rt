@@ -11,11 +11,9 @@ pub fn mark_path(work: &[u64], count: usize, in_tree: &mut [u8])
     requires { (count ≤ length work.now) × AllBelow (length in_tree.old) (take count work.now) }
     ensures { Stored 1 (take count work.now) in_tree.old in_tree.new }
 {
-    let mut k = 0;
-    while k < count {
+    for k in 0..count {
         let v = work[k] as usize;
         in_tree[v] = 1;
-        k += 1;
     }
 }
 
@@ -28,14 +26,12 @@ fn drop_path(log: &[u32], from: usize, to: usize, users: &mut [u16], in_tree: &m
         let marks = in_tree.old in
         Dropped (length marks) path users.old marks users.new in_tree.new }
 {
-    let mut k = from;
-    while k < to {
+    for k in from..to {
         let v = log[k] as usize;
         if in_tree[v] == 0 {
             users[v] -= 1;
         }
         in_tree[v] = 1;
-        k += 1;
     }
 }
 
@@ -48,14 +44,12 @@ fn add_path(log: &[u32], from: usize, to: usize, users: &mut [u16], in_tree: &mu
         let marks = in_tree.old in
         UsersAdded (length marks) path users.old marks users.new in_tree.new }
 {
-    let mut k = from;
-    while k < to {
+    for k in from..to {
         let v = log[k] as usize;
         if in_tree[v] == 1 {
             users[v] += 1;
         }
         in_tree[v] = 0;
-        k += 1;
     }
 }
 
@@ -65,11 +59,9 @@ fn unmark_path(log: &[u32], from: usize, to: usize, in_tree: &mut [u8])
     requires all_below { AllBelow (length in_tree.old) (slice from to log.now) }
     ensures { Stored 0 (slice from to log.now) in_tree.old in_tree.new }
 {
-    let mut k = from;
-    while k < to {
+    for k in from..to {
         let v = log[k] as usize;
         in_tree[v] = 0;
-        k += 1;
     }
 }
 

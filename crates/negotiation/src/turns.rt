@@ -3,10 +3,11 @@ ghost use Rattle.std.specs.Prelude.{Bool, true, ◌++◌, ◌≡◌, ℕ, ◌+�
 ghost use Rattle.std.proofs.Math.Seq.{slice};
 ghost use Rattle.price.specs.Bounds.{limit_most};
 ghost use Rattle.price.specs.Prices.{next_factor};
-ghost use Rattle.search.specs.Block.{block_of};
+ghost use Rattle.search.specs.Lent.{block_in, congestion_in};
 ghost use Rattle.search.specs.Distance.{tree_has};
 ghost use Rattle.search.specs.Turn.{weighed_congestion, price_at, turn};
-ghost use Rattle.job.specs.Job.{job_of, nodes, nets};
+ghost use Rattle.job.specs.Job.{nodes, nets};
+ghost use Rattle.job.specs.Lent.{job_in};
 ghost use Rattle.negotiation.specs.Routable.{Routable};
 ghost use Rattle.negotiation.specs.Machine.{Progress};
 ghost use Rattle.negotiation.specs.Order.{sinks_tried, weighting_due};
@@ -21,26 +22,19 @@ ghost use Rattle.negotiation.specs.Kept.{Ready, SomeReady};
 ghost use Rattle.negotiation.specs.Resume.{run_from, lent_records};
 ghost use Rattle.negotiation.specs.TakeSteps.{Started};
 
-use crate::take_up::Taken;
+use crate::take_up::Stopped;
 use crate::tariff::Tariff;
 use crate::{
-    Outcome, RouteAnswer, Start, back, congestion, due, nets, order, records, refused, take_up,
-    tariff, trees,
+    Outcome, RouteAnswer, back, congestion, due, nets, order, records, refused, take_up, tariff,
+    trees,
 };
-use job::{NETS_MOST, Terms};
-use price::{Tuning, Weighting};
-use search::{AimedPath, EDGES_MOST, FIRST_EDGES_MOST, NODES_MOST, PathAnswer};
+use job::{JobTables, NETS_MOST};
+use price::Tuning;
+use search::{AimedTurn, Back, EDGES_MOST, FIRST_EDGES_MOST, NODES_MOST, Prices, Tables};
 
-// What an attempt at a turn does.
-#[derive(Clone, Copy)]
-pub enum TurnMade {
-    // No sink is left to be joined.
-    Nothing,
-    // The turn's record does not fit the log.
-    Full,
-    // The turn is logged, and this is the tariff after it.
-    Logged(Tariff),
-}
+// The next turn's record does not fit the log.
+#[derive(Clone, Copy, Debug, PartialEq, Eq)]
+pub struct NoRoom;
 
 // The tariff at the next iteration's start.
 fn next_iteration(t: Tariff, g: Tuning) -> Tariff
@@ -57,7 +51,7 @@ fn answer(outcome: Outcome, t: Tariff) -> RouteAnswer
         × (result.expanded ≡ t.expanded) }
 {
     RouteAnswer {
-        outcome: outcome,
+        outcome,
         iteration: t.iteration,
         turns: t.turns,
         used: t.words as u64,
@@ -70,171 +64,104 @@ pub fn clear(work: &mut [u64], to: usize)
     requires { to ≤ length work.old }
     ensures { work.new ≡ replicate to 0 ++ drop to work.old }
 {
-    let mut k = 0;
-    while k < to {
-        work[k] = 0;
-        k += 1;
-    }
+    work[..to].fill(0);
 }
 
 // The cheapest path of a turn, by the search that is chosen, and how many nodes it expanded: none are counted with the plain one.
 fn found_path(
     aimed: bool,
-    kind: &[u8],
-    capacity: &[u8],
-    first_edge: &[u32],
-    edge_target: &[u16],
-    first_back: &[u32],
-    back_source: &[u16],
-    weighting: Weighting,
-    delay: &[u16],
-    factor: u32,
+    tables: &Tables,
+    back: &Back,
+    prices: &Prices,
     work: &mut [u64],
-    history: &[u32],
-    users: &[u16],
     in_tree: &[u8],
     sinks: &[u16],
-) -> AimedPath
-    requires ready { let block = block_of kind.now capacity.now first_edge.now edge_target.now in
-        let congestion = weighed_congestion weighting delay.now factor history.now users.now in
-        TurnReady block congestion in_tree.now work.old × (sink_list_sound (length kind.now) sinks.now ≡ true) }
-    requires back_lent { let block = block_of kind.now capacity.now first_edge.now edge_target.now in
-        BackLent aimed block first_back.now back_source.now }
-    ensures { let block = block_of kind.now capacity.now first_edge.now edge_target.now in
-        let congestion = weighed_congestion weighting delay.now factor history.now users.now in
+) -> AimedTurn
+    requires ready { let nodes = length tables.now.kind.now in
+        TurnReady (block_in tables.now) (congestion_in prices.now) in_tree.now work.old × (sink_list_sound nodes sinks.now ≡ true) }
+    requires back_lent { BackLent aimed (block_in tables.now) back.now }
+    ensures { let block = block_in tables.now in
+        let congestion = congestion_in prices.now in
         let marks = in_tree.now in
         let made = turn block (price_at block congestion) marks sinks.now in
-        PathFound (length kind.now) made work.old result.answer work.new
+        PathFound (length tables.now.kind.now) made work.old result.joins work.new
         × (result.expanded ≡ turn_count aimed block congestion marks sinks.now) }
 {
-    if aimed {
-        return search::aimed_path(
-            kind,
-            capacity,
-            first_edge,
-            edge_target,
-            first_back,
-            back_source,
-            weighting,
-            delay,
-            factor,
-            work,
-            history,
-            users,
-            in_tree,
-            sinks,
-        );
-    }
-    let answer = search::cheapest_path(
-        kind,
-        capacity,
-        first_edge,
-        edge_target,
-        weighting,
-        delay,
-        factor,
-        work,
-        history,
-        users,
-        in_tree,
-        sinks,
-    );
-    AimedPath {
-        answer: answer,
+    let none = AimedTurn {
+        joins: None,
         expanded: 0,
+    };
+    // Tables and numbers keep their rules: neither search refuses.
+    if aimed {
+        return match search::aimed_path(tables, back, prices, work, in_tree, sinks) {
+            Ok(turn) => turn,
+            Err(_) => none,
+        };
+    }
+    match search::cheapest_path(tables, prices, work, in_tree, sinks) {
+        Ok(joins) => AimedTurn { joins, expanded: 0 },
+        Err(_) => none,
     }
 }
 
-// One turn of a net for these sinks: its record is written where it fits, and its path joins the tree. Without sinks nothing is searched.
+// One turn of a net for these sinks: its record is written where it fits, and its path joins the tree. The answer is the tariff after the
+// turn, none where no sink is left to be joined. Without sinks nothing is searched.
 fn one_turn(
-    kind: &[u8],
-    capacity: &[u8],
-    first_edge: &[u32],
-    edge_target: &[u16],
-    first_back: &[u32],
-    back_source: &[u16],
-    weighting: Weighting,
-    delay: &[u16],
+    tables: &Tables,
+    back: &Back,
+    prices: &Prices,
     sinks: &[u16],
     net: u32,
     tariff: Tariff,
     work: &mut [u64],
     log: &mut [u32],
-    history: &[u32],
-    users: &[u16],
     in_tree: &mut [u8],
-) -> TurnMade
-    requires ready { let block = block_of kind.now capacity.now first_edge.now edge_target.now in
-        let congestion = weighed_congestion weighting delay.now tariff.factor history.now users.now in
-        CanTurn block congestion tariff sinks.now in_tree.old work.old log.old }
-    requires back_lent { let block = block_of kind.now capacity.now first_edge.now edge_target.now in
-        BackLent tariff.aimed block first_back.now back_source.now }
-    ensures answers { let block = block_of kind.now capacity.now first_edge.now edge_target.now in
-        let congestion = weighed_congestion weighting delay.now tariff.factor history.now users.now in
+) -> Result<Option<Tariff>, NoRoom>
+    requires ready { CanTurn (block_in tables.now) (congestion_in prices.now) tariff sinks.now in_tree.old work.old log.old }
+    requires back_lent { BackLent tariff.aimed (block_in tables.now) back.now }
+    ensures answers { let block = block_in tables.now in
+        let congestion = congestion_in prices.now in
         let marks = in_tree.old in
         let made = turn block (price_at block congestion) marks sinks.now in
         let count = turn_count tariff.aimed block congestion marks sinks.now in
         TurnDone result made count tariff net sinks.now log.old marks log.new in_tree.new }
-    ensures same_from { SameFrom (8 * length kind.now) work.old work.new }
+    ensures same_from { SameFrom (8 * length tables.now.kind.now) work.old work.new }
 {
-    if sinks.len() == 0 {
-        return TurnMade::Nothing;
+    if sinks.is_empty() {
+        return Ok(None);
     }
-    let factor = tariff.factor;
-    let found = found_path(
-        tariff.aimed,
-        kind,
-        capacity,
-        first_edge,
-        edge_target,
-        first_back,
-        back_source,
-        weighting,
-        delay,
-        factor,
-        work,
-        history,
-        users,
-        in_tree,
-        sinks,
-    );
-    let expanded = found.expanded as u64;
-    let answer = found.answer;
-    let PathAnswer::Joins {
-        place,
-        cost,
-        length,
-    } = answer
-    else {
-        return TurnMade::Nothing;
+    let found = found_path(tariff.aimed, tables, back, prices, work, in_tree, sinks);
+    let Some(joins) = found.joins else {
+        return Ok(None);
     };
-    let count = length as usize;
+    let count = joins.length as usize;
     let at = tariff.words;
     if log.len() - at < 6 + count {
-        return TurnMade::Full;
+        return Err(NoRoom);
     }
-    let p = place as usize;
-    let iteration = tariff.iteration;
-    records::write_record(log, at, iteration, net, sinks[p] as u32, cost, work, count);
+    let sink = sinks[joins.place as usize] as u32;
+    records::write_record(
+        log,
+        at,
+        tariff.iteration,
+        net,
+        sink,
+        joins.cost,
+        work,
+        count,
+    );
     trees::mark_path(work, count, in_tree);
-    TurnMade::Logged(tariff::turn_logged(tariff, 6 + count, expanded))
+    let logged = tariff::turn_logged(tariff, 6 + count, found.expanded as u64);
+    Ok(Some(logged))
 }
 
 // The next turn of a net, whose sinks stand in table 7 from one place to below another: for all of them, in a timed job for the one whose
 // turn it is.
 fn net_turn(
-    kind: &[u8],
-    capacity: &[u8],
-    first_edge: &[u32],
-    edge_target: &[u16],
-    first_back: &[u32],
-    back_source: &[u16],
-    sink: &[u16],
-    criticality: &[u8],
+    job: &JobTables,
+    back: &Back,
     from: usize,
     to: usize,
-    timed: bool,
-    delay: &[u16],
     net: u32,
     tariff: Tariff,
     work: &mut [u64],
@@ -242,50 +169,48 @@ fn net_turn(
     history: &[u32],
     users: &[u16],
     in_tree: &mut [u8],
-) -> TurnMade
-    requires sinks_ready { SinksReady timed sink.now criticality.now from to in_tree.old }
-    requires ready { let block = block_of kind.now capacity.now first_edge.now edge_target.now in
-        let sinks = slice from to sink.now in
-        let criticalities = slice from to criticality.now in
+) -> Result<Option<Tariff>, NoRoom>
+    requires sinks_ready { let j = job.now in SinksReady j.terms.timed j.sink.now j.criticality.now from to in_tree.old }
+    requires ready { let j = job.now in
+        let sinks = slice from to j.sink.now in
+        let criticalities = slice from to j.criticality.now in
         let joined : (ℕ → Bool) = tree_has in_tree.old in
-        let weighting = weighting_due timed joined sinks criticalities in
-        let congestion = weighed_congestion weighting delay.now tariff.factor history.now users.now in
-        CanTurn block congestion tariff (sinks_tried timed joined sinks criticalities) in_tree.old work.old log.old }
-    requires back_lent { let block = block_of kind.now capacity.now first_edge.now edge_target.now in
-        BackLent tariff.aimed block first_back.now back_source.now }
-    ensures answers { let block = block_of kind.now capacity.now first_edge.now edge_target.now in
-        let sinks = slice from to sink.now in
-        let criticalities = slice from to criticality.now in
+        let weighting = weighting_due j.terms.timed joined sinks criticalities in
+        let congestion = weighed_congestion weighting j.delay.now tariff.factor history.now users.now in
+        CanTurn (block_in j.block) congestion tariff (sinks_tried j.terms.timed joined sinks criticalities) in_tree.old work.old
+        log.old }
+    requires back_lent { BackLent tariff.aimed (block_in job.now.block) back.now }
+    ensures answers { let j = job.now in
+        let block = block_in j.block in
+        let sinks = slice from to j.sink.now in
+        let criticalities = slice from to j.criticality.now in
         let marks = in_tree.old in
         let joined : (ℕ → Bool) = tree_has marks in
-        let weighting = weighting_due timed joined sinks criticalities in
-        let congestion = weighed_congestion weighting delay.now tariff.factor history.now users.now in
-        let tried = sinks_tried timed joined sinks criticalities in
+        let weighting = weighting_due j.terms.timed joined sinks criticalities in
+        let congestion = weighed_congestion weighting j.delay.now tariff.factor history.now users.now in
+        let tried = sinks_tried j.terms.timed joined sinks criticalities in
         let made = turn block (price_at block congestion) marks tried in
         let count = turn_count tariff.aimed block congestion marks tried in
         TurnDone result made count tariff net tried log.old marks log.new in_tree.new }
-    ensures same_from { SameFrom (8 * length kind.now) work.old work.new }
+    ensures same_from { SameFrom (8 * length job.now.block.kind.now) work.old work.new }
 {
-    let tried = order::next_tried(timed, sink, criticality, from, to, in_tree);
-    let weighting = tried.weighting;
-    let a = tried.from;
-    let e = tried.to;
+    let tried = order::next_tried(job, from, to, in_tree);
+    let prices = Prices {
+        weighting: tried.weighting,
+        delay: job.delay,
+        factor: tariff.factor,
+        history,
+        others: users,
+    };
     one_turn(
-        kind,
-        capacity,
-        first_edge,
-        edge_target,
-        first_back,
-        back_source,
-        weighting,
-        delay,
-        &sink[a..e],
+        &job.block,
+        back,
+        &prices,
+        &job.sink[tried.from..tried.to],
         net,
         tariff,
         work,
         log,
-        history,
-        users,
         in_tree,
     )
 }
@@ -293,18 +218,8 @@ fn net_turn(
 // The iterations of a run that goes on from where its lists stand: in each every net that is due, in order, drops its old tree and makes
 // turns until its sinks are joined. Routing stops inside a net at the first turn whose record does not fit.
 fn go_on(
-    kind: &[u8],
-    capacity: &[u8],
-    first_edge: &[u32],
-    edge_target: &[u16],
-    first_back: &[u32],
-    back_source: &[u16],
-    source: &[u16],
-    first_sink: &[u32],
-    sink: &[u16],
-    delay: &[u16],
-    criticality: &[u8],
-    terms: Terms,
+    job: &JobTables,
+    back: &Back,
     begun: Tariff,
     history: &mut [u32],
     users: &mut [u16],
@@ -315,90 +230,56 @@ fn go_on(
     work: &mut [u64],
     log: &mut [u32],
 ) -> RouteAnswer
-    requires ready { let job = job_of kind.now capacity.now first_edge.now edge_target.now source.now first_sink.now sink.now
-        delay.now criticality.now terms in
-        (Routable job × (nets job ≤ unreachable_net job) × (8 * nodes job ≤ length work.old))
-        × SomeReady job begun history.old users.old in_tree.old tree_from.old tree_to.old due.old log.old }
-    requires back_lent { let block = block_of kind.now capacity.now first_edge.now edge_target.now in
-        BackLent begun.aimed block first_back.now back_source.now }
-    ensures answers { let job = job_of kind.now capacity.now first_edge.now edge_target.now
-        source.now first_sink.now sink.now delay.now criticality.now terms in
+    requires ready { let asked = job_in job.now in
+        (Routable asked × (nets asked ≤ unreachable_net asked) × (8 * nodes asked ≤ length work.old))
+        × SomeReady asked begun history.old users.old in_tree.old tree_from.old tree_to.old due.old log.old }
+    requires back_lent { BackLent begun.aimed (block_in job.now.block) back.now }
+    ensures answers { let asked = job_in job.now in
         ((p : Progress)
-        → Ready job p begun history.old users.old in_tree.old tree_from.old
+        → Ready asked p begun history.old users.old in_tree.old tree_from.old
         tree_to.old due.old log.old
-        → route_reply_of result work.new log.new ≡ continued job p work.old log.old) }
-    ensures expanded { let job = job_of kind.now capacity.now first_edge.now edge_target.now
-        source.now first_sink.now sink.now delay.now criticality.now terms in
+        → route_reply_of result work.new log.new ≡ continued asked p work.old log.old) }
+    ensures expanded { let asked = job_in job.now in
         let made = turns_logged (route_reply_of result work.new log.new) in
         ((p : Progress) (m : ℕ)
-        → Ready job p begun history.old users.old in_tree.old tree_from.old
+        → Ready asked p begun history.old users.old in_tree.old tree_from.old
         tree_to.old due.old log.old
-        → Ran job m p.records p.state → result.expanded ≡ expanded_after begun.aimed job p.records made) }
+        → Ran asked m p.records p.state → result.expanded ≡ expanded_after begun.aimed asked p.records made) }
 {
-    let n = kind.len();
+    let n = job.block.kind.len();
     let mut tariff = begun;
     'iterations: loop {
-        due::mark_due(
-            terms, tariff, capacity, first_sink, log, tree_from, tree_to, users, due,
-        );
-        let mut net = 0;
-        while net < source.len() {
-            let from = first_sink[net] as usize;
-            let to = first_sink[net + 1] as usize;
+        due::mark_due(job, tariff, log, tree_from, tree_to, users, due);
+        for net in 0..job.source.len() {
+            let from = job.first_sink[net] as usize;
+            let to = job.first_sink[net + 1] as usize;
             let first = tariff.words;
-            let mut left = nets::begin_net(
-                log, source, first_sink, net, due, tree_from, tree_to, users, in_tree,
-            );
-            while 0 < left {
-                match net_turn(
-                    kind,
-                    capacity,
-                    first_edge,
-                    edge_target,
-                    first_back,
-                    back_source,
-                    sink,
-                    criticality,
-                    from,
-                    to,
-                    terms.timed,
-                    delay,
-                    net as u32,
-                    tariff,
-                    work,
-                    log,
-                    history,
-                    users,
-                    in_tree,
-                ) {
-                    TurnMade::Nothing => {}
-                    TurnMade::Full => {
-                        break 'iterations;
-                    }
-                    TurnMade::Logged(t) => {
-                        tariff = t;
-                    }
-                }
-                left -= 1;
+            let most = nets::begin_net(job, log, net, due, tree_from, tree_to, users, in_tree);
+            for _ in 0..most {
+                let Ok(made) = net_turn(
+                    job, back, from, to, net as u32, tariff, work, log, history, users, in_tree,
+                ) else {
+                    break 'iterations;
+                };
+                tariff = made.unwrap_or(tariff);
             }
             let until = tariff.words;
             nets::end_net(
                 log, net, first, until, due, users, in_tree, tree_from, tree_to,
             );
-            net += 1;
         }
-        let over = congestion::over_count(capacity, users);
+        let over = congestion::over_count(job.block.capacity, users);
         let settled = over == 0;
         if settled {
             clear(work, 8 * n);
             return answer(Outcome::Accepted, tariff);
         }
-        if tariff.iteration == terms.limit {
+        if tariff.iteration == job.terms.limit {
             clear(work, 8 * n);
             return answer(Outcome::Limit(over), tariff);
         }
-        congestion::grow_histories(terms.tuning, capacity, users, history);
-        tariff = next_iteration(tariff, terms.tuning);
+        congestion::grow_histories(job.terms.tuning, job.block.capacity, users, history);
+        tariff = next_iteration(tariff, job.terms.tuning);
     }
     clear(work, 8 * n);
     answer(Outcome::LogFull, tariff)
@@ -406,17 +287,8 @@ fn go_on(
 
 // Where a run starts: as it is begun, or after the words of a lent log, which is taken up.
 fn start_at(
-    kind: &[u8],
-    capacity: &[u8],
-    first_edge: &[u32],
-    edge_target: &[u16],
-    source: &[u16],
-    first_sink: &[u32],
-    sink: &[u16],
-    delay: &[u16],
-    criticality: &[u8],
-    terms: Terms,
-    start: Start,
+    job: &JobTables,
+    start: Option<usize>,
     begun: Tariff,
     history: &mut [u32],
     users: &mut [u16],
@@ -426,35 +298,24 @@ fn start_at(
     due: &mut [u8],
     work: &mut [u64],
     log: &[u32],
-) -> Taken
-    requires { let job = job_of kind.now capacity.now first_edge.now edge_target.now source.now first_sink.now sink.now
-        delay.now criticality.now terms in
-        Routable job × (8 * nodes job ≤ length work.old)
-        × Ready job (first_progress job) begun history.old users.old in_tree.old tree_from.old tree_to.old due.old
+) -> Result<Tariff, Stopped>
+    requires { let asked = job_in job.now in
+        Routable asked × (8 * nodes asked ≤ length work.old)
+        × Ready asked (first_progress asked) begun history.old users.old in_tree.old tree_from.old tree_to.old due.old
         log.now }
-    ensures started { let job = job_of kind.now capacity.now first_edge.now edge_target.now
-        source.now first_sink.now sink.now delay.now criticality.now terms in
-        Started result start job history.new users.new in_tree.new tree_from.new
+    ensures started { let asked = job_in job.now in
+        Started result start asked history.new users.new in_tree.new tree_from.new
         tree_to.new due.new log.now }
-    ensures same_from { SameFrom (8 * length kind.now) work.old work.new }
+    ensures same_from { SameFrom (8 * length job.now.block.kind.now) work.old work.new }
 {
     match start {
-        Start::Anew => Taken::On(begun),
-        Start::After(used) => {
+        None => Ok(begun),
+        Some(used) => {
             if log.len() < used {
-                return Taken::Off(log.len());
+                return Err(Stopped::Off(log.len()));
             }
             take_up::take_up(
-                kind,
-                capacity,
-                first_edge,
-                edge_target,
-                source,
-                first_sink,
-                sink,
-                delay,
-                criticality,
-                terms,
+                job,
                 false,
                 begun,
                 history,
@@ -472,19 +333,9 @@ fn start_at(
 
 // The run that starts so: its iterations, or nothing but refusal 14.
 fn run_from(
-    kind: &[u8],
-    capacity: &[u8],
-    first_edge: &[u32],
-    edge_target: &[u16],
-    first_back: &[u32],
-    back_source: &[u16],
-    source: &[u16],
-    first_sink: &[u32],
-    sink: &[u16],
-    delay: &[u16],
-    criticality: &[u8],
-    terms: Terms,
-    start: Start,
+    job: &JobTables,
+    back: &Back,
+    start: Option<usize>,
     begun: Tariff,
     history: &mut [u32],
     users: &mut [u16],
@@ -495,60 +346,29 @@ fn run_from(
     work: &mut [u64],
     log: &mut [u32],
 ) -> RouteAnswer
-    requires ready { let job = job_of kind.now capacity.now first_edge.now edge_target.now source.now first_sink.now sink.now
-        delay.now criticality.now terms in
-        (Routable job × (nets job ≤ unreachable_net job) × (8 * nodes job ≤ length work.old))
-        × Ready job (first_progress job) begun history.old users.old in_tree.old tree_from.old tree_to.old due.old
+    requires ready { let asked = job_in job.now in
+        (Routable asked × (nets asked ≤ unreachable_net asked) × (8 * nodes asked ≤ length work.old))
+        × Ready asked (first_progress asked) begun history.old users.old in_tree.old tree_from.old tree_to.old due.old
         log.old }
-    requires back_lent { let block = block_of kind.now capacity.now first_edge.now edge_target.now in
-        BackLent begun.aimed block first_back.now back_source.now }
-    ensures answers { let job = job_of kind.now capacity.now first_edge.now edge_target.now
-        source.now first_sink.now sink.now delay.now criticality.now terms in
-        route_reply_of result work.new log.new ≡ run_from start job work.old log.old }
-    ensures expanded { let job = job_of kind.now capacity.now first_edge.now edge_target.now
-        source.now first_sink.now sink.now delay.now criticality.now terms in
+    requires back_lent { BackLent begun.aimed (block_in job.now.block) back.now }
+    ensures answers { let asked = job_in job.now in
+        route_reply_of result work.new log.new ≡ run_from start asked work.old log.old }
+    ensures expanded { let asked = job_in job.now in
         let made = turns_logged (route_reply_of result work.new log.new) in
-        result.expanded ≡ expanded_after begun.aimed job (lent_records start log.old) made }
+        result.expanded ≡ expanded_after begun.aimed asked (lent_records start log.old) made }
 {
-    let taken = start_at(
-        kind,
-        capacity,
-        first_edge,
-        edge_target,
-        source,
-        first_sink,
-        sink,
-        delay,
-        criticality,
-        terms,
-        start,
-        begun,
-        history,
-        users,
-        in_tree,
-        tree_from,
-        tree_to,
-        due,
-        work,
-        log,
-    );
-    let Taken::On(tariff) = taken else {
-        clear(work, 8 * kind.len());
-        return refused(Outcome::Diverges(take_up::words_at(taken) as u64));
+    let tariff = match start_at(
+        job, start, begun, history, users, in_tree, tree_from, tree_to, due, work, log,
+    ) {
+        Ok(tariff) => tariff,
+        Err(stopped) => {
+            clear(work, 8 * job.block.kind.len());
+            return refused(Outcome::Diverges(take_up::words_at(stopped) as u64));
+        }
     };
     go_on(
-        kind,
-        capacity,
-        first_edge,
-        edge_target,
-        first_back,
-        back_source,
-        source,
-        first_sink,
-        sink,
-        delay,
-        criticality,
-        terms,
+        job,
+        back,
         tariff::going_on(tariff, begun.aimed),
         history,
         users,
@@ -563,19 +383,10 @@ fn run_from(
 
 // The run with the search that aims, in lists for the edges by their target, of which the first holds 0.
 fn run_listed(
-    kind: &[u8],
-    capacity: &[u8],
-    first_edge: &[u32],
-    edge_target: &[u16],
+    job: &JobTables,
     first_back: &mut [u32],
     back_source: &mut [u16],
-    source: &[u16],
-    first_sink: &[u32],
-    sink: &[u16],
-    delay: &[u16],
-    criticality: &[u8],
-    terms: Terms,
-    start: Start,
+    start: Option<usize>,
     begun: Tariff,
     history: &mut [u32],
     users: &mut [u16],
@@ -586,61 +397,32 @@ fn run_listed(
     work: &mut [u64],
     log: &mut [u32],
 ) -> RouteAnswer
-    requires ready { let job = job_of kind.now capacity.now first_edge.now edge_target.now source.now first_sink.now sink.now
-        delay.now criticality.now terms in
-        (Routable job × (nets job ≤ unreachable_net job) × (8 * nodes job ≤ length work.old))
-        × Ready job (first_progress job) begun history.old users.old in_tree.old tree_from.old tree_to.old due.old
+    requires ready { let asked = job_in job.now in
+        (Routable asked × (nets asked ≤ unreachable_net asked) × (8 * nodes asked ≤ length work.old))
+        × Ready asked (first_progress asked) begun history.old users.old in_tree.old tree_from.old tree_to.old due.old
         log.old }
-    requires fitting { Fitting first_edge.now edge_target.now first_back.old back_source.old
+    requires fitting { Fitting job.now.block.first_edge.now job.now.block.edge_target.now first_back.old back_source.old
         × ((v : ℕ) → v < length first_back.old → get_or first_back.old v 0 ≡ 0) }
-    ensures answers { let job = job_of kind.now capacity.now first_edge.now edge_target.now
-        source.now first_sink.now sink.now delay.now criticality.now terms in
-        route_reply_of result work.new log.new ≡ run_from start job work.old log.old }
-    ensures expanded { let job = job_of kind.now capacity.now first_edge.now edge_target.now
-        source.now first_sink.now sink.now delay.now criticality.now terms in
+    ensures answers { let asked = job_in job.now in
+        route_reply_of result work.new log.new ≡ run_from start asked work.old log.old }
+    ensures expanded { let asked = job_in job.now in
         let made = turns_logged (route_reply_of result work.new log.new) in
-        result.expanded ≡ expanded_after begun.aimed job (lent_records start log.old) made }
+        result.expanded ≡ expanded_after begun.aimed asked (lent_records start log.old) made }
 {
-    back::list_by_target(kind, first_edge, edge_target, first_back, back_source);
-    run_from(
-        kind,
-        capacity,
-        first_edge,
-        edge_target,
+    back::list_by_target(&job.block, first_back, back_source);
+    let back = Back {
         first_back,
         back_source,
-        source,
-        first_sink,
-        sink,
-        delay,
-        criticality,
-        terms,
-        start,
-        begun,
-        history,
-        users,
-        in_tree,
-        tree_from,
-        tree_to,
-        due,
-        work,
-        log,
+    };
+    run_from(
+        job, &back, start, begun, history, users, in_tree, tree_from, tree_to, due, work, log,
     )
 }
 
 // The same with lists of its own: a function apart, since a run with the plain search doesn't need them.
 fn run_aimed(
-    kind: &[u8],
-    capacity: &[u8],
-    first_edge: &[u32],
-    edge_target: &[u16],
-    source: &[u16],
-    first_sink: &[u32],
-    sink: &[u16],
-    delay: &[u16],
-    criticality: &[u8],
-    terms: Terms,
-    start: Start,
+    job: &JobTables,
+    start: Option<usize>,
     begun: Tariff,
     history: &mut [u32],
     users: &mut [u16],
@@ -651,36 +433,24 @@ fn run_aimed(
     work: &mut [u64],
     log: &mut [u32],
 ) -> RouteAnswer
-    requires { let job = job_of kind.now capacity.now first_edge.now edge_target.now source.now first_sink.now sink.now
-        delay.now criticality.now terms in
-        (Routable job × (nets job ≤ unreachable_net job) × (8 * nodes job ≤ length work.old))
-        × Ready job (first_progress job) begun history.old users.old in_tree.old tree_from.old tree_to.old due.old
+    requires { let asked = job_in job.now in
+        (Routable asked × (nets asked ≤ unreachable_net asked) × (8 * nodes asked ≤ length work.old))
+        × Ready asked (first_progress asked) begun history.old users.old in_tree.old tree_from.old tree_to.old due.old
         log.old }
-    ensures answers { let job = job_of kind.now capacity.now first_edge.now edge_target.now
-        source.now first_sink.now sink.now delay.now criticality.now terms in
-        route_reply_of result work.new log.new ≡ run_from start job work.old log.old }
-    ensures expanded { let job = job_of kind.now capacity.now first_edge.now edge_target.now
-        source.now first_sink.now sink.now delay.now criticality.now terms in
+    ensures answers { let asked = job_in job.now in
+        route_reply_of result work.new log.new ≡ run_from start asked work.old log.old }
+    ensures expanded { let asked = job_in job.now in
         let made = turns_logged (route_reply_of result work.new log.new) in
-        result.expanded ≡ expanded_after begun.aimed job (lent_records start log.old) made }
+        result.expanded ≡ expanded_after begun.aimed asked (lent_records start log.old) made }
 {
-    let n = kind.len();
-    let edges = edge_target.len();
+    let n = job.block.kind.len();
+    let edges = job.block.edge_target.len();
     let mut first_back = [0u32; FIRST_EDGES_MOST];
     let mut back_source = [0u16; EDGES_MOST];
     run_listed(
-        kind,
-        capacity,
-        first_edge,
-        edge_target,
+        job,
         &mut first_back[..n + 1],
         &mut back_source[..edges],
-        source,
-        first_sink,
-        sink,
-        delay,
-        criticality,
-        terms,
         start,
         begun,
         history,
@@ -696,17 +466,8 @@ fn run_aimed(
 
 // The run with the search that is chosen. The plain one needs no edges by their target.
 fn run_chosen(
-    kind: &[u8],
-    capacity: &[u8],
-    first_edge: &[u32],
-    edge_target: &[u16],
-    source: &[u16],
-    first_sink: &[u32],
-    sink: &[u16],
-    delay: &[u16],
-    criticality: &[u8],
-    terms: Terms,
-    start: Start,
+    job: &JobTables,
+    start: Option<usize>,
     begun: Tariff,
     history: &mut [u32],
     users: &mut [u16],
@@ -717,99 +478,48 @@ fn run_chosen(
     work: &mut [u64],
     log: &mut [u32],
 ) -> RouteAnswer
-    requires { let job = job_of kind.now capacity.now first_edge.now edge_target.now source.now first_sink.now sink.now
-        delay.now criticality.now terms in
-        (Routable job × (nets job ≤ unreachable_net job) × (8 * nodes job ≤ length work.old))
-        × Ready job (first_progress job) begun history.old users.old in_tree.old tree_from.old tree_to.old due.old
+    requires { let asked = job_in job.now in
+        (Routable asked × (nets asked ≤ unreachable_net asked) × (8 * nodes asked ≤ length work.old))
+        × Ready asked (first_progress asked) begun history.old users.old in_tree.old tree_from.old tree_to.old due.old
         log.old }
-    ensures answers { let job = job_of kind.now capacity.now first_edge.now edge_target.now
-        source.now first_sink.now sink.now delay.now criticality.now terms in
-        route_reply_of result work.new log.new ≡ run_from start job work.old log.old }
-    ensures expanded { let job = job_of kind.now capacity.now first_edge.now edge_target.now
-        source.now first_sink.now sink.now delay.now criticality.now terms in
+    ensures answers { let asked = job_in job.now in
+        route_reply_of result work.new log.new ≡ run_from start asked work.old log.old }
+    ensures expanded { let asked = job_in job.now in
         let made = turns_logged (route_reply_of result work.new log.new) in
-        result.expanded ≡ expanded_after begun.aimed job (lent_records start log.old) made }
+        result.expanded ≡ expanded_after begun.aimed asked (lent_records start log.old) made }
 {
     if begun.aimed {
         return run_aimed(
-            kind,
-            capacity,
-            first_edge,
-            edge_target,
-            source,
-            first_sink,
-            sink,
-            delay,
-            criticality,
-            terms,
-            start,
-            begun,
-            history,
-            users,
-            in_tree,
-            tree_from,
-            tree_to,
-            due,
-            work,
-            log,
+            job, start, begun, history, users, in_tree, tree_from, tree_to, due, work, log,
         );
     }
+    let none = Back {
+        first_back: &[],
+        back_source: &[],
+    };
     run_from(
-        kind,
-        capacity,
-        first_edge,
-        edge_target,
-        &first_edge[..0],
-        &edge_target[..0],
-        source,
-        first_sink,
-        sink,
-        delay,
-        criticality,
-        terms,
-        start,
-        begun,
-        history,
-        users,
-        in_tree,
-        tree_from,
-        tree_to,
-        due,
-        work,
-        log,
+        job, &none, start, begun, history, users, in_tree, tree_from, tree_to, due, work, log,
     )
 }
 
 // The negotiation: the lists and the tariff of a run that begins, and the run from its start.
 pub fn negotiate(
-    kind: &[u8],
-    capacity: &[u8],
-    first_edge: &[u32],
-    edge_target: &[u16],
-    source: &[u16],
-    first_sink: &[u32],
-    sink: &[u16],
-    delay: &[u16],
-    criticality: &[u8],
-    terms: Terms,
-    start: Start,
+    job: &JobTables,
+    start: Option<usize>,
     aimed: bool,
     work: &mut [u64],
     log: &mut [u32],
 ) -> RouteAnswer
-    requires { let job = job_of kind.now capacity.now first_edge.now edge_target.now source.now first_sink.now sink.now
-        delay.now criticality.now terms in
-        Routable job × (nets job ≤ unreachable_net job) × (8 * nodes job ≤ length work.old) }
-    ensures answers { let job = job_of kind.now capacity.now first_edge.now edge_target.now
-        source.now first_sink.now sink.now delay.now criticality.now terms in
-        route_reply_of result work.new log.new ≡ run_from start job work.old log.old }
-    ensures expanded { let job = job_of kind.now capacity.now first_edge.now edge_target.now
-        source.now first_sink.now sink.now delay.now criticality.now terms in
+    requires { let asked = job_in job.now in
+        Routable asked × (nets asked ≤ unreachable_net asked) × (8 * nodes asked ≤ length work.old) }
+    ensures answers { let asked = job_in job.now in
+        route_reply_of result work.new log.new ≡ run_from start asked work.old log.old }
+    ensures expanded { let asked = job_in job.now in
         let made = turns_logged (route_reply_of result work.new log.new) in
-        result.expanded ≡ expanded_after aimed job (lent_records start log.old) made }
+        result.expanded ≡ expanded_after aimed asked (lent_records start log.old) made }
 {
-    let n = kind.len();
-    let nets = source.len();
+    let n = job.block.kind.len();
+    let nets = job.source.len();
     let mut history = [1u32; NODES_MOST];
     let mut users = [0u16; NODES_MOST];
     let mut in_tree = [0u8; NODES_MOST];
@@ -821,20 +531,11 @@ pub fn negotiate(
         factor: 0,
         turns: 0,
         words: 0,
-        aimed: aimed,
+        aimed,
         expanded: 0,
     };
     run_chosen(
-        kind,
-        capacity,
-        first_edge,
-        edge_target,
-        source,
-        first_sink,
-        sink,
-        delay,
-        criticality,
-        terms,
+        job,
         start,
         begun,
         &mut history[..n],

@@ -3,63 +3,17 @@
 #![tactic(auto)]
 
 use cases::{lines, read, show};
-use job::Terms;
-use negotiation::{Outcome, RouteAnswer};
+use job::{JobTables, Tables, Terms};
+use negotiation::RouteAnswer;
 use price::Tuning;
 
-fn one_number(row: u64, value: u64) {
-    show::refused(row);
-    show::value(value);
-}
-
-fn two_numbers(row: u64, first: u64, second: u64) {
-    one_number(row, first);
-    show::value(second);
-}
-
-// The refusal's numbers, if there is one.
-fn outcome(r: RouteAnswer) {
-    let outcome = r.outcome;
-    match outcome {
-        Outcome::Accepted => {}
-        Outcome::Unreachable { net, place } => {
-            two_numbers(7, net as u64, place as u64);
-        }
-        Outcome::LogFull => {
-            two_numbers(8, r.iteration as u64, r.turns);
-        }
-        Outcome::Limit(over) => {
-            two_numbers(9, r.iteration as u64, over as u64);
-        }
-        Outcome::BadTable(table) => {
-            one_number(5, table as u64);
-        }
-        Outcome::ShortWork(needed) => {
-            one_number(6, needed);
-        }
-        Outcome::Diverges(word) => {
-            one_number(14, word);
-        }
-        Outcome::TooLarge { nodes, limit } => {
-            two_numbers(15, nodes as u64, limit as u64);
-        }
-        Outcome::NotCheapest { word, cost, least } => {
-            two_numbers(18, word, cost);
-            show::value(least);
-        }
-    }
-}
-
-// The outcome, the iteration, the turns, the words of log, and of a search that aims how many nodes it expanded.
+// The refusal, if there is one, the iteration, the turns, the words of log, and of a search that aims how many nodes it expanded.
 fn answer(r: RouteAnswer, aimed: bool) {
-    outcome(r);
-    show::answered();
-    show::entry(r.iteration as u64);
-    show::entry(r.turns);
-    show::entry(r.used);
-    if aimed {
-        show::entry(r.expanded);
+    if let Some(refused) = negotiation::refusal(r.outcome, r.iteration, r.turns) {
+        show::refused(refused.number, refused.first, refused.second);
     }
+    let own = [r.iteration as u64, r.turns, r.used, r.expanded];
+    show::answered(if aimed { &own } else { &own[..3] });
 }
 
 // What line 2 says.
@@ -75,369 +29,127 @@ struct Asked {
     whole: bool,
 }
 
-// The limit, the tuning, the rule and its k, and whether the job is timed.
-fn terms(n: [u32; 11], timed: bool) -> Terms {
-    let tuning = Tuning {
-        first: n[1],
-        up: n[2],
-        down: n[3],
-        step: n[4],
+// The numbers of line 2: the limit, the tuning, the rule and its k, whether the job is timed, which search it is, and two more. Which
+// search it is may be left out, and with it the last of the terms.
+fn said(n: &[u32]) -> Option<Asked> {
+    let &[limit, first, up, down, step, rule, until, ref rest @ ..] = n else {
+        return None;
     };
-    Terms {
-        limit: n[0],
-        tuning: tuning,
-        rule: n[5],
-        until: n[6],
-        timed: timed,
-    }
-}
-
-// The numbers of line 2. Which search it is may be left out, and with it the last of the terms.
-fn said(n: [u32; 11], count: usize) -> Asked {
-    if count == 11 {
-        return Asked {
-            terms: terms(n, 1 <= n[7]),
-            aimed: 1 <= n[8],
-            first: n[9],
-            second: n[10],
-            whole: true,
-        };
-    }
-    if count == 10 {
-        return Asked {
-            terms: terms(n, 1 <= n[7]),
-            aimed: false,
-            first: n[8],
-            second: n[9],
-            whole: true,
-        };
-    }
-    read::exactly(count, 9);
-    Asked {
-        terms: terms(n, false),
-        aimed: false,
-        first: n[7],
-        second: n[8],
-        whole: false,
-    }
-}
-
-// Calls the router and prints the answer, the work slice and the log.
-fn line(
-    kind: &[u8],
-    capacity: &[u8],
-    first_edge: &[u32],
-    edge_target: &[u16],
-    source: &[u16],
-    first_sink: &[u32],
-    sink: &[u16],
-    delay: &[u16],
-    criticality: &[u8],
-    terms: Terms,
-    aimed: bool,
-    work: &mut [u64],
-    log: &mut [u32],
-) {
-    let answered = negotiation::route(
-        kind,
-        capacity,
-        first_edge,
-        edge_target,
-        source,
-        first_sink,
-        sink,
-        delay,
-        criticality,
+    let (timed, aimed, last) = match *rest {
+        [timed, aimed, first, second] => (1 <= timed, 1 <= aimed, [first, second]),
+        [timed, first, second] => (1 <= timed, false, [first, second]),
+        [first, second] => (false, false, [first, second]),
+        _ => return None,
+    };
+    let tuning = Tuning {
+        first,
+        up,
+        down,
+        step,
+    };
+    let terms = Terms {
+        limit,
+        tuning,
+        rule,
+        until,
+        timed,
+    };
+    Some(Asked {
         terms,
         aimed,
-        work,
-        log,
-    );
-    answer(answered, aimed);
-    show::entries(work, work.len());
-    show::words(log, log.len());
+        first: last[0],
+        second: last[1],
+        whole: rest.len() > 2,
+    })
 }
 
-// The work slice and the log, as long as the case says, and the call.
-fn memory(
-    kind: &[u8],
-    capacity: &[u8],
-    first_edge: &[u32],
-    edge_target: &[u16],
-    source: &[u16],
-    first_sink: &[u32],
-    sink: &[u16],
-    delay: &[u16],
-    criticality: &[u8],
-    n: Asked,
-) {
+// The router, with a work slice and a log as long as the case says: the answer, the work slice and the log.
+fn route_case(job: &JobTables, n: Asked) {
     let mut work = [7u64; 128];
     let mut log = [7u32; 256];
-    let entries = read::of_entries(n.first, &work);
-    let words = read::of_words(n.second, &log);
-    line(
-        kind,
-        capacity,
-        first_edge,
-        edge_target,
-        source,
-        first_sink,
-        sink,
-        delay,
-        criticality,
-        n.terms,
-        n.aimed,
-        &mut work[..entries],
-        &mut log[..words],
-    );
-}
-
-// Calls resume and prints the answer, the work slice and the log.
-fn resume_line(
-    kind: &[u8],
-    capacity: &[u8],
-    first_edge: &[u32],
-    edge_target: &[u16],
-    source: &[u16],
-    first_sink: &[u32],
-    sink: &[u16],
-    delay: &[u16],
-    criticality: &[u8],
-    terms: Terms,
-    aimed: bool,
-    used: u64,
-    work: &mut [u64],
-    log: &mut [u32],
-) {
-    let answered = negotiation::resume(
-        kind,
-        capacity,
-        first_edge,
-        edge_target,
-        source,
-        first_sink,
-        sink,
-        delay,
-        criticality,
-        terms,
-        aimed,
-        used,
-        work,
-        log,
-    );
-    answer(answered, aimed);
-    show::entries(work, work.len());
-    show::words(log, log.len());
+    let work = read::first(n.first, &mut work);
+    let log = read::first(n.second, &mut log);
+    answer(negotiation::route(job, n.aimed, work, log), n.aimed);
+    show::entries(work);
+    show::entries(log);
 }
 
 // The line after the tables.
 fn after_tables(whole: bool) -> usize {
-    if whole {
-        return 11;
-    }
-    9
+    if whole { 11 } else { 9 }
 }
 
-// The work slice as long as the case says, the log as the case has it, and the call.
-fn resume_memory(
-    case: &[u8],
-    kind: &[u8],
-    capacity: &[u8],
-    first_edge: &[u32],
-    edge_target: &[u16],
-    source: &[u16],
-    first_sink: &[u32],
-    sink: &[u16],
-    delay: &[u16],
-    criticality: &[u8],
-    n: Asked,
-) {
+// Resume, with a work slice as long as the case says and the log as the case has it.
+fn resume_case(text: &[u8], job: &JobTables, n: Asked) {
     let mut work = [7u64; 128];
     let mut log = [0u32; 256];
-    let entries = read::of_entries(n.second, &work);
-    let words = read::words(case, after_tables(n.whole), &mut log);
-    resume_line(
-        kind,
-        capacity,
-        first_edge,
-        edge_target,
-        source,
-        first_sink,
-        sink,
-        delay,
-        criticality,
-        n.terms,
+    let work = read::first(n.second, &mut work);
+    let log = read::entries(text, after_tables(n.whole), &mut log);
+    answer(
+        negotiation::resume(job, n.aimed, n.first as u64, work, log),
         n.aimed,
-        n.first as u64,
-        &mut work[..entries],
-        &mut log[..words],
     );
+    show::entries(work);
+    show::entries(log);
 }
 
 // Whether the case's call is resume, and not route.
-fn resumes(case: &[u8]) -> bool {
-    lines::call(case, 1) == b'e'
+fn resumes(text: &[u8]) -> bool {
+    lines::call(text, 1) == b'e'
 }
 
-// The line after the log.
-fn after_log(whole: bool) -> usize {
-    if whole {
-        return 12;
-    }
-    10
-}
-
-// How many lines the case has: that of a resume has a line for the log.
-fn line_count(case: &[u8], whole: bool) -> usize {
-    if resumes(case) {
-        return after_log(whole);
-    }
-    after_tables(whole)
-}
-
-// The call, by its name.
-fn call(
-    case: &[u8],
-    kind: &[u8],
-    capacity: &[u8],
-    first_edge: &[u32],
-    edge_target: &[u16],
-    source: &[u16],
-    first_sink: &[u32],
-    sink: &[u16],
-    delay: &[u16],
-    criticality: &[u8],
-    n: Asked,
-) {
-    if resumes(case) {
-        resume_memory(
-            case,
-            kind,
-            capacity,
-            first_edge,
-            edge_target,
-            source,
-            first_sink,
-            sink,
-            delay,
-            criticality,
-            n,
-        );
-        return;
-    }
-    memory(
-        kind,
-        capacity,
-        first_edge,
-        edge_target,
-        source,
-        first_sink,
-        sink,
-        delay,
-        criticality,
-        n,
-    );
-}
-
-// Tables 9 and 10, where the case has them, and the call.
-fn times(
-    case: &[u8],
-    kind: &[u8],
-    capacity: &[u8],
-    first_edge: &[u32],
-    edge_target: &[u16],
-    source: &[u16],
-    first_sink: &[u32],
-    sink: &[u16],
-    n: Asked,
-) {
-    let mut delay = [0u16; 64];
-    let mut criticality = [0u8; 64];
-    let nodes = read::halves_if(n.whole, case, 9, &mut delay);
-    let sinks = read::bytes_if(n.whole, case, 10, &mut criticality);
-    call(
-        case,
-        kind,
-        capacity,
-        first_edge,
-        edge_target,
-        source,
-        first_sink,
-        sink,
-        &delay[..nodes],
-        &criticality[..sinks],
-        n,
-    );
-}
-
-// The tables of the nets, and the rest of the case.
-fn nets(
-    case: &[u8],
-    kind: &[u8],
-    capacity: &[u8],
-    first_edge: &[u32],
-    edge_target: &[u16],
-    n: Asked,
-) {
+// The tables of the nets, with tables 9 and 10 where the case has them, and the call, by its name.
+fn nets(text: &[u8], block: Tables, n: Asked) {
     let mut source = [0u16; 64];
     let mut first_sink = [0u32; 64];
     let mut sink = [0u16; 64];
-    let sources = read::halves(case, 6, &mut source);
-    let places = read::words(case, 7, &mut first_sink);
-    let sinks = read::halves(case, 8, &mut sink);
-    times(
-        case,
-        kind,
-        capacity,
-        first_edge,
-        edge_target,
-        &source[..sources],
-        &first_sink[..places],
-        &sink[..sinks],
-        n,
-    );
+    let mut delay = [0u16; 64];
+    let mut criticality = [0u8; 64];
+    let job = JobTables {
+        block,
+        source: read::entries(text, 6, &mut source),
+        first_sink: read::entries(text, 7, &mut first_sink),
+        sink: read::entries(text, 8, &mut sink),
+        delay: read::entries_if(n.whole, text, 9, &mut delay),
+        criticality: read::entries_if(n.whole, text, 10, &mut criticality),
+        terms: n.terms,
+    };
+    if resumes(text) {
+        resume_case(text, &job, n);
+    } else {
+        route_case(&job, n);
+    }
 }
 
 // The tables of the block, and the rest of the case.
-fn block(case: &[u8], n: Asked) {
+fn block(text: &[u8], n: Asked) {
     let mut kind = [0u8; 64];
     let mut capacity = [0u8; 64];
     let mut first_edge = [0u32; 64];
     let mut edge_target = [0u16; 64];
-    let kinds = read::bytes(case, 2, &mut kind);
-    let capacities = read::bytes(case, 3, &mut capacity);
-    let places = read::words(case, 4, &mut first_edge);
-    let edges = read::halves(case, 5, &mut edge_target);
-    nets(
-        case,
-        &kind[..kinds],
-        &capacity[..capacities],
-        &first_edge[..places],
-        &edge_target[..edges],
-        n,
-    );
+    let tables = Tables {
+        kind: read::entries(text, 2, &mut kind),
+        capacity: read::entries(text, 3, &mut capacity),
+        first_edge: read::entries(text, 4, &mut first_edge),
+        edge_target: read::entries(text, 5, &mut edge_target),
+    };
+    nets(text, tables, n);
 }
 
-fn one(case: &[u8]) {
+fn one(text: &[u8]) {
     let mut numbers = [0u32; 11];
-    show::name(case);
-    let count = read::words(case, 1, &mut numbers);
-    let n = said(numbers, count);
-    read::end(case, line_count(case, n.whole));
-    block(case, n);
+    show::name(text);
+    match said(read::entries(text, 1, &mut numbers)) {
+        Some(n) => {
+            // that of a resume has a line for the log
+            read::end(text, after_tables(n.whole) + resumes(text) as usize);
+            block(text, n);
+        }
+        None => show::malformed(),
+    }
     show::line_end();
 }
 
-fn all(file: &[u8]) {
-    let mut at = lines::first_case(file, 0);
-    while at < file.len() {
-        one(&file[at..]);
-        at = lines::next_case(file, at);
-    }
-}
-
 fn main() {
-    let mut file = [0u8; 131072];
-    let size = read::file(&mut file);
-    all(&file[..size]);
+    cases::each(one)
 }

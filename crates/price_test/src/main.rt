@@ -3,63 +3,65 @@
 #![tactic(auto)]
 
 use cases::{lines, read, show};
-use price::{PriceAnswer, Tuning};
+use price::{BadNumber, Numbers, Tuning};
 
-fn price_answer(answer: PriceAnswer) {
+fn price_answer(answer: Result<u64, BadNumber>) {
     match answer {
-        PriceAnswer::Price(p) => answered(p),
-        PriceAnswer::Refused(place) => {
-            show::refused(13);
-            show::value(place);
-        }
+        Ok(price) => show::answered(&[price]),
+        Err(bad) => show::refused(13, bad.place as u64, None),
     }
 }
 
-fn answered(n: u64) {
-    show::answered();
-    show::entry(n);
-}
-
-// The same for calls whose first four numbers are a tuning.
-fn tuned(letter: u8, tuning: Tuning, n: &[u32]) {
-    match (letter, n) {
-        (b'n', []) => answered(price::tuning_sound(tuning) as u64),
-        (b'c', &[iteration, factor]) => {
-            answered(price::next_factor(tuning, iteration, factor) as u64);
-        }
-        (b's', &[history, users, capacity]) => {
-            answered(price::next_history(tuning, history, users, capacity));
-        }
+// A price, or that of a timed job, by the call's third letter and the numbers of its line.
+fn priced(letter: u8, n: &[u32]) {
+    let &[kind, factor, others, capacity, history, ref rest @ ..] = n else {
+        return show::malformed();
+    };
+    let numbers = Numbers {
+        kind,
+        factor,
+        others,
+        capacity,
+        history,
+    };
+    match (letter, rest) {
+        (b'i', []) => price_answer(price::price(numbers)),
+        (b'm', &[delay, criticality]) => price_answer(price::timed_price(
+            numbers,
+            delay,
+            criticality,
+        )),
         _ => show::malformed(),
     }
 }
 
-// Makes the call that the case names, by its third letter, with the numbers of its line.
+// Whether a tuning is sound, a factor or a history.
+fn tuned(letter: u8, n: &[u32]) {
+    let &[first, up, down, step, ref rest @ ..] = n else {
+        return show::malformed();
+    };
+    let tuning = Tuning {
+        first,
+        up,
+        down,
+        step,
+    };
+    let answer = match (letter, rest) {
+        (b'n', []) => price::tuning_sound(tuning) as u64,
+        (b'c', &[iteration, factor]) => price::next_factor(tuning, iteration, factor) as u64,
+        (b's', &[history, users, capacity]) => price::next_history(
+            tuning, history, users, capacity,
+        ),
+        _ => return show::malformed(),
+    };
+    show::answered(&[answer]);
+}
+
+// The call that the case names, by its third letter.
 fn call(letter: u8, n: &[u32]) {
-    match (letter, n) {
-        (b'i', &[kind, factor, others, capacity, history]) => {
-            price_answer(price::price(kind, factor, others, capacity, history));
-        }
-        (b'm', &[kind, factor, others, capacity, history, delay, criticality]) => {
-            price_answer(price::timed_price(
-                kind,
-                factor,
-                others,
-                capacity,
-                history,
-                delay,
-                criticality,
-            ));
-        }
-        (_, [first, up, down, step, rest @ ..]) => {
-            let tuning = Tuning {
-                first: *first,
-                up: *up,
-                down: *down,
-                step: *step,
-            };
-            tuned(letter, tuning, rest);
-        }
+    match letter {
+        b'i' | b'm' => priced(letter, n),
+        b'n' | b'c' | b's' => tuned(letter, n),
         _ => show::malformed(),
     }
 }

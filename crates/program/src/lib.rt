@@ -5,7 +5,7 @@
 use flow::BYTES;
 use text::Style;
 
-// Standard input and output, by their numbers.
+// Standard input and output, by their numbers: std's reader has no call that fills an array as far as the input goes, without a heap.
 const STDIN: i32 = 0;
 
 const STDOUT: i32 = 1;

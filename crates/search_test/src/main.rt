@@ -4,574 +4,184 @@
 
 use cases::{lines, read, show};
 use price::Weighting;
-use search::{AimedPath, PathAnswer, SearchAnswer};
+use search::{Back, Prices, Refusal, Tables};
 
-fn refused(row: u64, value: u64) {
-    show::refused(row);
-    show::value(value);
+// A case's text, and what its calls share.
+#[derive(Clone, Copy)]
+struct Case<'a> {
+    text: &'a [u8],
+    tables: Tables<'a>,
+    prices: Prices<'a>,
+    in_tree: &'a [u8],
 }
 
-fn too_large(nodes: u64) {
-    refused(15, nodes);
-    show::value(0);
-}
-
-fn joined(place: u32, cost: u64, length: u32) {
-    show::answered();
-    show::entry(place as u64);
-    show::entry(cost);
-    show::entry(length as u64);
-}
-
-fn search_answer(answer: SearchAnswer) {
-    match answer {
-        SearchAnswer::Done => show::answered(),
-        SearchAnswer::BadTable(table) => refused(5, table as u64),
-        SearchAnswer::ShortWork(needed) => refused(6, needed),
-        SearchAnswer::BadNumber(place) => refused(13, place as u64),
-        SearchAnswer::TooLarge(nodes) => too_large(nodes as u64),
+fn refused(refusal: Refusal) {
+    match refusal {
+        Refusal::BadTable(table) => show::refused(5, table as u64, None),
+        Refusal::ShortWork(needed) => show::refused(6, needed, None),
+        Refusal::BadNumber(place) => show::refused(13, place as u64, None),
+        Refusal::TooLarge(nodes) => show::refused(15, nodes as u64, Some(0)),
     }
-}
-
-// Where no sink is joined, `=` has no number after it.
-fn path_answer(answer: PathAnswer) {
-    match answer {
-        PathAnswer::Joins {
-            place,
-            cost,
-            length,
-        } => joined(place, cost, length),
-        PathAnswer::Stuck => show::answered(),
-        PathAnswer::BadTable(table) => refused(5, table as u64),
-        PathAnswer::ShortWork(needed) => refused(6, needed),
-        PathAnswer::BadNumber(place) => refused(13, place as u64),
-        PathAnswer::TooLarge(nodes) => too_large(nodes as u64),
-    }
-}
-
-// The same of the search that aims, and how many nodes it expanded, also after a refusal.
-fn aimed_answer(aimed: AimedPath) {
-    let answer = aimed.answer;
-    match answer {
-        PathAnswer::Joins {
-            place,
-            cost,
-            length,
-        } => joined(place, cost, length),
-        PathAnswer::Stuck => show::answered(),
-        due => {
-            path_answer(due);
-            show::answered();
-        }
-    }
-    show::entry(aimed.expanded as u64);
 }
 
 // A line of the case that stands after tables 1 to 4, which is one later where table 9 is there too.
 fn line(weighting: Weighting, number: u32) -> usize {
-    if weighting.timed {
-        return number as usize + 1;
-    }
-    number as usize
+    number as usize + weighting.timed as usize
 }
 
-// Calls the search and prints its line.
-fn search_line(
-    case: &[u8],
-    kind: &[u8],
-    capacity: &[u8],
-    first_edge: &[u32],
-    edge_target: &[u16],
-    factor: u32,
-    history: &[u32],
-    others: &[u16],
-    in_tree: &[u8],
-    work: &mut [u64],
-) {
-    show::name(case);
-    show::call(b"search");
-    search_answer(search::search(
-        kind,
-        capacity,
-        first_edge,
-        edge_target,
-        factor,
-        work,
-        history,
-        others,
-        in_tree,
-    ));
-    show::entries(work, work.len());
-    show::line_end();
-}
-
-// Calls the timed search and prints its line.
-fn timed_search_line(
-    case: &[u8],
-    kind: &[u8],
-    capacity: &[u8],
-    first_edge: &[u32],
-    edge_target: &[u16],
-    delay: &[u16],
-    factor: u32,
-    criticality: u32,
-    history: &[u32],
-    others: &[u16],
-    in_tree: &[u8],
-    work: &mut [u64],
-) {
-    show::name(case);
-    show::call(b"search");
-    search_answer(search::timed_search(
-        kind,
-        capacity,
-        first_edge,
-        edge_target,
-        delay,
-        factor,
-        criticality,
-        work,
-        history,
-        others,
-        in_tree,
-    ));
-    show::entries(work, work.len());
-    show::line_end();
-}
-
-// Calls the cheapest path and prints its line.
-fn path_line(
-    case: &[u8],
-    kind: &[u8],
-    capacity: &[u8],
-    first_edge: &[u32],
-    edge_target: &[u16],
-    weighting: Weighting,
-    delay: &[u16],
-    factor: u32,
-    history: &[u32],
-    others: &[u16],
-    in_tree: &[u8],
-    sinks: &[u16],
-    work: &mut [u64],
-) {
-    show::name(case);
-    show::call(b"path");
-    path_answer(search::cheapest_path(
-        kind,
-        capacity,
-        first_edge,
-        edge_target,
-        weighting,
-        delay,
-        factor,
-        work,
-        history,
-        others,
-        in_tree,
-        sinks,
-    ));
-    show::entries(work, work.len());
-    show::line_end();
-}
-
-// Calls the cheapest path by the search that aims and prints its line.
-fn aimed_line(
-    case: &[u8],
-    kind: &[u8],
-    capacity: &[u8],
-    first_edge: &[u32],
-    edge_target: &[u16],
-    first_back: &[u32],
-    back_source: &[u16],
-    weighting: Weighting,
-    delay: &[u16],
-    factor: u32,
-    history: &[u32],
-    others: &[u16],
-    in_tree: &[u8],
-    sinks: &[u16],
-    work: &mut [u64],
-) {
-    show::name(case);
-    show::call(b"aimed");
-    aimed_answer(search::aimed_path(
-        kind,
-        capacity,
-        first_edge,
-        edge_target,
-        first_back,
-        back_source,
-        weighting,
-        delay,
-        factor,
-        work,
-        history,
-        others,
-        in_tree,
-        sinks,
-    ));
-    show::entries(work, work.len());
-    show::line_end();
-}
-
-// The search, on the work slice as the case has it.
-fn search_case(
-    case: &[u8],
-    kind: &[u8],
-    capacity: &[u8],
-    first_edge: &[u32],
-    edge_target: &[u16],
-    weighting: Weighting,
-    delay: &[u16],
-    factor: u32,
-    history: &[u32],
-    others: &[u16],
-    in_tree: &[u8],
-) {
+// The search, on the work slice as the case has it, and its line.
+fn search_case(case: &Case) {
+    let prices = case.prices;
     let mut work = [0u64; 8192];
-    let size = read::entries(case, line(weighting, 10), &mut work);
-    if weighting.timed {
-        timed_search_line(
-            case,
-            kind,
-            capacity,
-            first_edge,
-            edge_target,
-            delay,
-            factor,
-            weighting.criticality,
-            history,
-            others,
-            in_tree,
-            &mut work[..size],
-        );
+    let work = read::entries(case.text, line(prices.weighting, 10), &mut work);
+    show::name(case.text);
+    show::call(b"search");
+    let answer = if prices.weighting.timed {
+        search::timed_search(
+            &case.tables,
+            prices.delay,
+            prices.factor,
+            prices.weighting.criticality,
+            work,
+            prices.history,
+            prices.others,
+            case.in_tree,
+        )
     } else {
-        search_line(
-            case,
-            kind,
-            capacity,
-            first_edge,
-            edge_target,
-            factor,
-            history,
-            others,
-            in_tree,
-            &mut work[..size],
-        );
+        search::search(
+            &case.tables,
+            prices.factor,
+            work,
+            prices.history,
+            prices.others,
+            case.in_tree,
+        )
+    };
+    match answer {
+        Ok(()) => show::answered(&[]),
+        Err(refusal) => refused(refusal),
     }
+    show::entries(work);
+    show::line_end();
 }
 
-// The cheapest path to the case's sinks, on the work slice as the case has it.
-fn path_case(
-    case: &[u8],
-    kind: &[u8],
-    capacity: &[u8],
-    first_edge: &[u32],
-    edge_target: &[u16],
-    weighting: Weighting,
-    delay: &[u16],
-    factor: u32,
-    history: &[u32],
-    others: &[u16],
-    in_tree: &[u8],
-) {
+// The cheapest path to the case's sinks, on the work slice as the case has it, and its line. Where no sink is joined, `=` has no number
+// after it.
+fn path_case(case: &Case) {
+    let weighting = case.prices.weighting;
     let mut sinks = [0u16; 4097];
     let mut work = [0u64; 8192];
-    let listed = read::halves(case, line(weighting, 9), &mut sinks);
-    let size = read::entries(case, line(weighting, 10), &mut work);
-    path_line(
-        case,
-        kind,
-        capacity,
-        first_edge,
-        edge_target,
-        weighting,
-        delay,
-        factor,
-        history,
-        others,
-        in_tree,
-        &sinks[..listed],
-        &mut work[..size],
-    );
+    let sinks = read::entries(case.text, line(weighting, 9), &mut sinks);
+    let work = read::entries(case.text, line(weighting, 10), &mut work);
+    show::name(case.text);
+    show::call(b"path");
+    match search::cheapest_path(&case.tables, &case.prices, work, case.in_tree, sinks) {
+        Ok(Some(joins)) => show::answered(&[joins.place as u64, joins.cost, joins.length as u64]),
+        Ok(None) => show::answered(&[]),
+        Err(refusal) => refused(refusal),
+    }
+    show::entries(work);
+    show::line_end();
 }
 
-// The same path by the search that aims. The tables by target stand at the end of the case.
-fn aimed_case(
-    case: &[u8],
-    kind: &[u8],
-    capacity: &[u8],
-    first_edge: &[u32],
-    edge_target: &[u16],
-    weighting: Weighting,
-    delay: &[u16],
-    factor: u32,
-    history: &[u32],
-    others: &[u16],
-    in_tree: &[u8],
-) {
+// The same path by the search that aims, with how many nodes it expanded, none where it is refused. The tables by target stand at the end
+// of the case.
+fn aimed_case(case: &Case) {
+    let weighting = case.prices.weighting;
     let mut sinks = [0u16; 4097];
     let mut work = [0u64; 8192];
     let mut first_back = [0u32; 4098];
     let mut back_source = [0u16; 32769];
-    let listed = read::halves(case, line(weighting, 9), &mut sinks);
-    let size = read::entries(case, line(weighting, 10), &mut work);
-    let places = read::words(case, line(weighting, 11), &mut first_back);
-    let edges = read::halves(case, line(weighting, 12), &mut back_source);
-    aimed_line(
-        case,
-        kind,
-        capacity,
-        first_edge,
-        edge_target,
-        &first_back[..places],
-        &back_source[..edges],
-        weighting,
-        delay,
-        factor,
-        history,
-        others,
-        in_tree,
-        &sinks[..listed],
-        &mut work[..size],
-    );
-}
-
-// The search and the cheapest path.
-fn both(
-    case: &[u8],
-    kind: &[u8],
-    capacity: &[u8],
-    first_edge: &[u32],
-    edge_target: &[u16],
-    weighting: Weighting,
-    delay: &[u16],
-    factor: u32,
-    history: &[u32],
-    others: &[u16],
-    in_tree: &[u8],
-) {
-    search_case(
-        case,
-        kind,
-        capacity,
-        first_edge,
-        edge_target,
-        weighting,
-        delay,
-        factor,
-        history,
-        others,
-        in_tree,
-    );
-    path_case(
-        case,
-        kind,
-        capacity,
-        first_edge,
-        edge_target,
-        weighting,
-        delay,
-        factor,
-        history,
-        others,
-        in_tree,
-    );
+    let sinks = read::entries(case.text, line(weighting, 9), &mut sinks);
+    let work = read::entries(case.text, line(weighting, 10), &mut work);
+    let back = Back {
+        first_back: read::entries(case.text, line(weighting, 11), &mut first_back),
+        back_source: read::entries(case.text, line(weighting, 12), &mut back_source),
+    };
+    show::name(case.text);
+    show::call(b"aimed");
+    match search::aimed_path(&case.tables, &back, &case.prices, work, case.in_tree, sinks) {
+        Ok(turn) => match turn.joins {
+            Some(joins) => show::answered(&[
+                joins.place as u64,
+                joins.cost,
+                joins.length as u64,
+                turn.expanded as u64,
+            ]),
+            None => show::answered(&[turn.expanded as u64]),
+        },
+        Err(refusal) => {
+            refused(refusal);
+            show::answered(&[0]);
+        }
+    }
+    show::entries(work);
+    show::line_end();
 }
 
 // Whether the case's call is `aimed` or `timed_aimed`.
-fn aims(case: &[u8]) -> bool {
-    if lines::call(case, 0) == b't' {
-        return lines::call(case, 6) == b'a';
-    }
-    lines::call(case, 0) == b'a'
+fn aims(text: &[u8]) -> bool {
+    let first = lines::call(text, 0);
+    first == b'a' || first == b't' && lines::call(text, 6) == b'a'
 }
 
-// What the case calls.
-fn calls(
-    case: &[u8],
-    kind: &[u8],
-    capacity: &[u8],
-    first_edge: &[u32],
-    edge_target: &[u16],
-    weighting: Weighting,
-    delay: &[u16],
-    factor: u32,
-    history: &[u32],
-    others: &[u16],
-    in_tree: &[u8],
-) {
-    if aims(case) {
-        aimed_case(
-            case,
-            kind,
-            capacity,
-            first_edge,
-            edge_target,
-            weighting,
-            delay,
-            factor,
-            history,
-            others,
-            in_tree,
-        );
-        return;
-    }
-    both(
-        case,
-        kind,
-        capacity,
-        first_edge,
-        edge_target,
-        weighting,
-        delay,
-        factor,
-        history,
-        others,
-        in_tree,
-    );
-}
-
-// The lists of the nodes, and then the calls.
-fn lists(
-    case: &[u8],
-    kind: &[u8],
-    capacity: &[u8],
-    first_edge: &[u32],
-    edge_target: &[u16],
-    weighting: Weighting,
-    delay: &[u16],
-    factor: u32,
-) {
+// The lists of the nodes, table 9 of a timed case before them, and then the calls: the search that aims, or the search and the cheapest
+// path.
+fn lists<'x>(text: &'x [u8], tables: Tables<'x>, weighting: Weighting, factor: u32) {
+    let mut delay = [0u16; 1025];
     let mut history = [0u32; 1025];
     let mut others = [0u16; 1025];
     let mut in_tree = [0u8; 1025];
-    let histories = read::words(case, line(weighting, 6), &mut history);
-    let uses = read::halves(case, line(weighting, 7), &mut others);
-    let marks = read::bytes(case, line(weighting, 8), &mut in_tree);
-    calls(
-        case,
-        kind,
-        capacity,
-        first_edge,
-        edge_target,
+    let prices = Prices {
         weighting,
-        delay,
+        delay: read::entries_if(weighting.timed, text, 6, &mut delay),
         factor,
-        &history[..histories],
-        &others[..uses],
-        &in_tree[..marks],
-    );
-}
-
-// Table 9 of a timed case, and then the rest of the case.
-fn delays(
-    case: &[u8],
-    kind: &[u8],
-    capacity: &[u8],
-    first_edge: &[u32],
-    edge_target: &[u16],
-    weighting: Weighting,
-    factor: u32,
-) {
-    let mut delay = [0u16; 1025];
-    if weighting.timed {
-        let count = read::halves(case, 6, &mut delay);
-        lists(
-            case,
-            kind,
-            capacity,
-            first_edge,
-            edge_target,
-            weighting,
-            &delay[..count],
-            factor,
-        );
+        history: read::entries(text, line(weighting, 6), &mut history),
+        others: read::entries(text, line(weighting, 7), &mut others),
+    };
+    let case = Case {
+        text,
+        tables,
+        prices,
+        in_tree: read::entries(text, line(weighting, 8), &mut in_tree),
+    };
+    if aims(text) {
+        aimed_case(&case);
     } else {
-        lists(
-            case,
-            kind,
-            capacity,
-            first_edge,
-            edge_target,
-            weighting,
-            &delay[..0],
-            factor,
-        );
+        search_case(&case);
+        path_case(&case);
     }
 }
 
 // The tables, and then the rest of the case.
-fn tables(case: &[u8], weighting: Weighting, factor: u32) {
+fn tables(text: &[u8], weighting: Weighting, factor: u32) {
     let mut kind = [0u8; 4097];
     let mut capacity = [0u8; 4097];
     let mut first_edge = [0u32; 4098];
     let mut edge_target = [0u16; 32769];
-    let kinds = read::bytes(case, 2, &mut kind);
-    let capacities = read::bytes(case, 3, &mut capacity);
-    let places = read::words(case, 4, &mut first_edge);
-    let edges = read::halves(case, 5, &mut edge_target);
-    delays(
-        case,
-        &kind[..kinds],
-        &capacity[..capacities],
-        &first_edge[..places],
-        &edge_target[..edges],
-        weighting,
-        factor,
-    );
-}
-
-// The line after the last of the case, without table 9.
-fn lines_of(case: &[u8]) -> u32 {
-    if aims(case) {
-        return 13;
-    }
-    11
-}
-
-fn untimed(case: &[u8], count: usize, factor: u32) {
-    read::exactly(count, 1);
-    let weighting = Weighting {
-        timed: false,
-        criticality: 0,
+    let tables = Tables {
+        kind: read::entries(text, 2, &mut kind),
+        capacity: read::entries(text, 3, &mut capacity),
+        first_edge: read::entries(text, 4, &mut first_edge),
+        edge_target: read::entries(text, 5, &mut edge_target),
     };
-    read::end(case, line(weighting, lines_of(case)));
-    tables(case, weighting, factor);
-}
-
-fn timed(case: &[u8], count: usize, factor: u32, criticality: u32) {
-    read::exactly(count, 2);
-    let weighting = Weighting {
-        timed: true,
-        criticality: criticality,
-    };
-    read::end(case, line(weighting, lines_of(case)));
-    tables(case, weighting, factor);
+    lists(text, tables, weighting, factor);
 }
 
 // The case, timed or not, by its call's first letter.
-fn one(case: &[u8]) {
+fn one(text: &[u8]) {
     let mut n = [0u32; 2];
-    let count = read::words(case, 1, &mut n);
-    if lines::call(case, 0) == b't' {
-        timed(case, count, n[0], n[1]);
-    } else {
-        untimed(case, count, n[0]);
-    }
-}
-
-fn all(file: &[u8]) {
-    let mut at = lines::first_case(file, 0);
-    while at < file.len() {
-        one(&file[at..]);
-        at = lines::next_case(file, at);
-    }
+    let timed = lines::call(text, 0) == b't';
+    let (factor, criticality) = match (timed, read::entries(text, 1, &mut n)) {
+        (false, &mut [factor]) => (factor, 0),
+        (true, &mut [factor, criticality]) => (factor, criticality),
+        _ => return show::malformed(),
+    };
+    let weighting = Weighting { timed, criticality };
+    read::end(text, line(weighting, if aims(text) { 13 } else { 11 }));
+    tables(text, weighting, factor);
 }
 
 fn main() {
-    let mut file = [0u8; 131072];
-    let size = read::file(&mut file);
-    all(&file[..size]);
+    cases::each(one)
 }

@@ -11,6 +11,7 @@ use lib.Seq.{append_snoc}
 use borrow.Author.Tests.{lt-ltb, le-ltb}
 use Rattle.price.proofs.TestLaws.{le_or_lt}
 use Rattle.text.specs.Decimal.{digits, decimal}
+use Rattle.text.specs.Lines.{print_fields, print_line}
 
 -- ---- digits
 
@@ -174,3 +175,14 @@ parted_end n left k others h p = p.parts ∙ rw (front_none k left h)
 pub parted_long : (n left k : ℕ) (others : List ℕ) → Parted n left k others → k + length others ≡ length (decimal n)
 parted_long n left k others p =
     rw (p.parts, length-append (front k left) others, p.places)
+
+-- ---- lines
+
+-- a line of two fields is its digits, two commas, the letter and LF
+pub two_size : (letter a b : ℕ) → length (print_line letter (a ∷ b ∷ [])) ≡ length (decimal a) + length (decimal b) + 4
+unfolding print_line print_fields
+two_size letter a b = simp length-append (omega arith)
+
+pub three_size : (letter a b c : ℕ) → length (print_line letter (a ∷ b ∷ c ∷ [])) ≡ length (decimal a) + length (decimal b) + length (decimal c) + 5
+unfolding print_line print_fields
+three_size letter a b c = simp length-append (omega arith)

@@ -2,10 +2,11 @@
 -- Assumes nothing.
 use mathlib.Core.Bool.{true}
 use mathlib.Core.List.{List, [], ◌∷◌}
-use mathlib.Core.Path.{◌≡◌, sym, ◌∙◌, ap}
+use mathlib.Core.Path.{◌≡◌, ◌∙◌, ap}
 use Prim.Native.Nat.{ℕ, ◌+◌, ◌≤◌, ◌<◌}
 use native.Mathlib.Nat.{min-le_right}
 use native.Mathlib.Omega.{arith}
+use Rattle.std.specs.Prelude.{Result, Ok, Err}
 use lib.Dec.{eqb}
 use lib.ListN.{length, get_or}
 use borrow.Author.Tests.{le-leb, lt-leb, ltb-true}
@@ -18,8 +19,8 @@ use Rattle.job.specs.Tables.{nets_most}
 use Rattle.negotiation.specs.Records.{Record, decode}
 use Rattle.text.specs.Routes.{log_sound}
 use Rattle.text.specs.Users.{log_checked, checked_at, below_nodes, nets_with, UsersReply, users_reply, users_reply_of}
-use Rattle.text.specs.declared.log_check.LogCheck.{LogCheck}
-use Rattle.text.specs.declared.log_check.LogCheck.TheVariants as k
+use Rattle.text.specs.declared.log_check.SoundLog.{SoundLog}
+use Rattle.text.specs.declared.log_check.UnsoundLog.{UnsoundLog}
 use Rattle.text.proofs.LogLaws.{found, found_none}
 use Rattle.uses.specs.Uses.{kind_count, logs_most, over_kind, uses_in, UseCounts, use_counts_of, with_log, of_block, add_reply_with, tested_reply}
 use Rattle.uses.specs.Steps.{tallied, log_added}
@@ -44,34 +45,37 @@ module _ (kinds log : List ℕ) where
   abbrev block : Block
   block = block_of kinds [] [] []
 
-  module _ (before : List ℕ) {r : LogCheck} {users : List ℕ} (answered : users_reply_of r users ≡ users_reply (below_nodes (length kinds)) log before) where
-    tested : {s : LogCheck} → r ≡ s → checked_at s ≡ log_checked (of_block block) log
+  module _ (before : List ℕ) (r : Result SoundLog UnsoundLog) {users : List ℕ} (answered : users_reply_of r users ≡ users_reply (below_nodes (length kinds)) log before) where
+    checked_is : checked_at r ≡ log_checked (of_block block) log
     unfolding users_reply
-    tested e = sym (ap checked_at e) ∙ ap (λ (u : UsersReply). u.checked) answered
+    checked_is = ap (λ (u : UsersReply). u.checked) answered
 
-    pub add-unsound : (c : UseCounts) {word : ℕ} → r ≡ k.Unsound word → add_reply_with (10 ∷ word ∷ []) c ≡ tested_reply block c log
+  pub add-unsound :
+      (before : List ℕ) (c : UseCounts) {unsound : UnsoundLog} {users : List ℕ} → users_reply_of (Err unsound) users ≡ users_reply (below_nodes (length kinds)) log before
+      → add_reply_with (10 ∷ unsound.word ∷ []) c ≡ tested_reply block c log
+  unfolding tested_reply
+  add-unsound before c {unsound} {users} answered =
+      let f = found_none (of_block block) log (checked_is before (Err unsound) answered) in rw (f.0, f.1)
+
+  module _ (before : List ℕ) {sound : SoundLog} {users : List ℕ} (answered : users_reply_of (Ok sound) users ≡ users_reply (below_nodes (length kinds)) log before) where
+    taken : log_sound (of_block block) log ≡ true
+    taken = (found (of_block block) log (λ i t. ltb-true i nets_most t) (min-le_right (length kinds) nodes_most) (checked_is before (Ok sound) answered)).0
+
+    pub add_full : (c : UseCounts) → logs_most ≤ c.logs → add_reply_with (16 ∷ logs_most ∷ []) c ≡ tested_reply block c log
     unfolding tested_reply
-    add-unsound c e = let f = found_none (of_block block) log (tested e) in rw (f.0, f.1)
+    add_full c l = rw (taken, le-leb logs_most c.logs l)
 
-    module _ {iteration turns : ℕ} (e : r ≡ k.Sound iteration turns) where
-      taken : log_sound (of_block block) log ≡ true
-      taken = (found (of_block block) log (λ i t. ltb-true i nets_most t) (min-le_right (length kinds) nodes_most) (tested e)).0
+    users_are : users ≡ up_to (nets_with (decode log)) nodes_most
+    unfolding users_reply
+    users_are = ap (λ (u : UsersReply). u.users) answered ∙ rw taken
 
-      pub add_full : (c : UseCounts) → logs_most ≤ c.logs → add_reply_with (16 ∷ logs_most ∷ []) c ≡ tested_reply block c log
-      unfolding tested_reply
-      add_full c l = rw (taken, le-leb logs_most c.logs l)
+    pub users-long : length users ≡ nodes_most
+    users-long = ap (λ (us : List ℕ). length us) users_are ∙ length_up_to (nets_with (decode log)) nodes_most
 
-      users_are : users ≡ up_to (nets_with (decode log)) nodes_most
-      unfolding users_reply
-      users_are = ap (λ (u : UsersReply). u.users) answered ∙ rw taken
-
-      pub users-long : length users ≡ nodes_most
-      users-long = ap (λ (us : List ℕ). length us) users_are ∙ length_up_to (nets_with (decode log)) nodes_most
-
-      pub add_done_lem :
-          (c : UseCounts) {uses : List ℕ} → length kinds ≤ nodes_most → c.logs < logs_most → uses ≡ tallied kinds users c.uses
-          → add_reply_with [] (use_counts_of uses (c.logs + 1)) ≡ tested_reply block c log
-      unfolding tested_reply with_log uses_in log_added
-      add_done_lem c few l is =
-          let added = is ∙ ap (λ (us : List ℕ). tallied kinds us c.uses) users_are ∙ log_added_lem kinds c.uses (decode log) few in
-          rw (taken, lt-leb logs_most c.logs l, added)
+    pub add_done_lem :
+        (c : UseCounts) {uses : List ℕ} → length kinds ≤ nodes_most → c.logs < logs_most → uses ≡ tallied kinds users c.uses
+        → add_reply_with [] (use_counts_of uses (c.logs + 1)) ≡ tested_reply block c log
+    unfolding tested_reply with_log uses_in log_added
+    add_done_lem c few l is =
+        let added = is ∙ ap (λ (us : List ℕ). tallied kinds us c.uses) users_are ∙ log_added_lem kinds c.uses (decode log) few in
+        rw (taken, lt-leb logs_most c.logs l, added)

@@ -2,10 +2,11 @@
 -- Assumes nothing.
 use mathlib.Core.Bool.{Bool, true, false}
 use mathlib.Core.List.{List, [], ◌∷◌}
-use mathlib.Core.Path.{◌≡◌, refl, sym, ◌∙◌}
+use mathlib.Core.Path.{◌≡◌, refl, sym, ◌∙◌, ap}
 use Prim.Native.Nat.{ℕ, zero, suc, ◌+◌, ◌*◌, ◌≤◌, ◌<◌}
 use native.Mathlib.Nat.{mul-le-mul}
 use native.Mathlib.Omega.{arith}
+use Rattle.std.specs.Prelude.{Result, Ok, Err}
 use lib.ListN.{get_or, replicate, get_or-replicate}
 use borrow.Author.Tests.{le-leb, lt-leb, lt-ltb, le-ltb}
 use borrow.Author.Count.{below_more}
@@ -13,7 +14,9 @@ use Rattle.price.specs.Bounds.{nodes_most}
 use Rattle.price.specs.Lists.{first_below}
 use Rattle.price.proofs.BelowLaws.{first_below-is, first_below-all}
 use Rattle.search.specs.Block.{Block, nodes}
+use Rattle.search.specs.Lent.{tested}
 use Rattle.search.specs.Tables.{faulty_table}
+use Rattle.search.specs.declared.BadTable.{BadTable}
 use Rattle.search.proofs.BlockLaws.{sound_of, kinds-few}
 use Rattle.uses.specs.Uses.{kind_count, logs_most, nodes_of, UseCounts, too_many, counts_refusal}
 use Rattle.uses.specs.Steps.{tallied, AtMost, over_nodes}
@@ -75,26 +78,40 @@ module _ (b : Block) (sound : faulty_table b ≡ 0) where
 
 -- ---- which refusal is due
 
-pub no_fault : (b : Block) {table : ℕ} → table ≡ faulty_table b → table < 1 → faulty_table b ≡ 0
-no_fault b found l = omega (arith, found)
+-- what the test of the tables answers
+pub no_fault : (b : Block) → Ok tt ≡ tested (faulty_table b) → faulty_table b ≡ 0
+no_fault b = passed (faulty_table b) where
+  passed : (table : ℕ) → Ok tt ≡ tested table → table ≡ 0
+  passed zero e = refl
+  passed (suc n) e = cc e
 
-module _ (b : Block) (c : UseCounts) {table : ℕ} (found : table ≡ faulty_table b) where
-  pub refused_table : 1 ≤ table → 5 ∷ table ∷ [] ≡ counts_refusal b c
+table_of : Result (Unit {0}) BadTable → ℕ
+table_of (Ok _) = 0
+table_of (Err bad) = bad.table
+
+fault : (bad : BadTable) (table : ℕ) → Err bad ≡ tested table → (bad.table ≡ table) × (1 ≤ bad.table)
+unfolding table_of
+fault bad zero e = cc e
+fault bad (suc n) e = let is : bad.table ≡ suc n = ap table_of e in (is, omega (arith, is))
+
+module _ (b : Block) (c : UseCounts) where
+  pub refused_table : (bad : BadTable) → Err bad ≡ tested (faulty_table b) → 5 ∷ bad.table ∷ [] ≡ counts_refusal b c
   unfolding counts_refusal
-  refused_table l = rw (← found, le-leb 1 table l)
+  refused_table bad e = let f = fault bad (faulty_table b) e in rw (← f.0, le-leb 1 bad.table f.1)
 
-  pub refused-logs : table < 1 → logs_most < c.logs → 13 ∷ kind_count ∷ [] ≡ counts_refusal b c
+  pub refused-logs : faulty_table b ≡ 0 → logs_most < c.logs → 13 ∷ kind_count ∷ [] ≡ counts_refusal b c
   unfolding counts_refusal
-  refused-logs l m = rw (← found, lt-leb 1 table l, lt-ltb logs_most c.logs m)
+  refused-logs sound m = rw (sound, lt-ltb logs_most c.logs m)
 
-  module _ (l : table < 1) (few : c.logs ≤ logs_most) {nodes : List ℕ} (are : nodes ≡ tallied b.kinds (replicate 4096 1) (replicate kind_count 0)) {over : ℕ} (is : over ≡ first_below (over_nodes c.uses nodes c.logs) kind_count) where
-    over-is : over ≡ first_below (too_many b c) kind_count
-    over-is = is ∙ found-over b (no_fault b found l) are c
-
-    pub refused_kind : over < kind_count → 13 ∷ over ∷ [] ≡ counts_refusal b c
+  module _ (sound : faulty_table b ≡ 0) (few : c.logs ≤ logs_most) {nodes : List ℕ} (are : nodes ≡ tallied b.kinds (replicate 4096 1) (replicate kind_count 0)) where
+    pub refused_kind : {over : ℕ} → (over ≡ first_below (over_nodes c.uses nodes c.logs) kind_count) × (over < kind_count) → 13 ∷ over ∷ [] ≡ counts_refusal b c
     unfolding counts_refusal
-    refused_kind m = rw (no_fault b found l, le-ltb logs_most c.logs few, ← over-is, lt-ltb over kind_count m)
+    refused_kind {over} found =
+        let is : over ≡ first_below (too_many b c) kind_count = found.0 ∙ found-over b sound are c in
+        rw (sound, le-ltb logs_most c.logs few, ← is, lt-ltb over kind_count found.1)
 
-    pub refused_none : kind_count ≤ over → [] ≡ counts_refusal b c
+    pub refused_none : first_below (over_nodes c.uses nodes c.logs) kind_count ≡ kind_count → [] ≡ counts_refusal b c
     unfolding counts_refusal
-    refused_none m = rw (no_fault b found l, le-ltb logs_most c.logs few, ← over-is, le-ltb over kind_count m)
+    refused_none none =
+        let is : first_below (too_many b c) kind_count ≡ kind_count = sym (found-over b sound are c) ∙ none in
+        rw (sound, le-ltb logs_most c.logs few, is)

@@ -5,11 +5,12 @@ use mathlib.Core.List.{List, ◌++◌}
 use mathlib.Core.Logic.{⊎_elim}
 use mathlib.Core.Path.{◌≡◌, refl, sym, ◌∙◌, ap}
 use Prim.Native.Nat.{ℕ, ◌+◌, ◌*◌, ◌≤◌, ◌<◌}
+use native.Mathlib.Nat.{zero-add}
 use native.Mathlib.Numerals.{add-one}
 use native.Mathlib.Omega.{arith}
 use lib.Dec.{eqb}
-use lib.ListN.{length, get_or, set, drop, length-set}
-use lib.Seq.{get_or-set_same, get_or-set_other, ext_get_or, take_all}
+use lib.ListN.{length, get_or, set, take, drop, length-set}
+use lib.Seq.{get_or-set_same, get_or-set_other, ext_get_or, take_all, paste-suc}
 use borrow.Author.Tests.{eq-eqb, ne_eqb}
 use Rattle.price.specs.Test.{choose}
 use Rattle.price.specs.Lists.{up_to}
@@ -17,7 +18,6 @@ use Rattle.price.proofs.ListLaws.{get_or_up_to, length_up_to}
 use Rattle.price.proofs.TestLaws.{same_or_not}
 use Rattle.search.specs.Tables.{kinds_sound}
 use Rattle.search.proofs.BlockLaws.{kind_most_lem, kinds-few}
-use Rattle.text.proofs.CopyLaws.{Copied}
 use Rattle.uses.specs.Uses.{kind_count, sum_below, over_kind}
 use Rattle.uses.specs.Steps.{tallied, count_most, AtMost}
 use Rattle.uses.proofs.SumLaws.{sum_same}
@@ -100,7 +100,25 @@ tallied-long kinds weights before = length_up_to (λ k. get_or before k 0 + over
 
 -- ---- all entries of a list over the first of another
 
-pub copied_whole : {from before now : List ℕ} {k : ℕ} → Copied from before now k → k ≤ length from → length from ≤ k → now ≡ from ++ drop (length from) before
-copied_whole {from} {before} {now} {k} h l m =
+-- k entries are copied
+pub record Copied (from before now : List ℕ) (k : ℕ) : Type 0 where
+  pub within : k ≤ length from
+  pub same_length : length now ≡ length before
+  pub so_far : now ≡ take k from ++ drop k before
+
+pub copied_none : (from before : List ℕ) → Copied from before before 0
+copied_none from before = record { within = omega arith; same_length = refl; so_far = refl }
+
+pub copied_next : {from before now : List ℕ} {k : ℕ} → Copied from before now k → k < length from → k < length before → Copied from before (set now k (get_or from k 0)) (k + 1)
+copied_next {from} {before} {now} {k} h l m =
+    record {
+      within = omega arith;
+      same_length = simp length-set h.same_length;
+      so_far = rw (h.so_far, add-one) (simp zero-add at (paste-suc before 0 from k 0 (omega arith) l));
+    }
+
+pub copied_whole : {from before now : List ℕ} {k : ℕ} → Copied from before now k → length from ≤ k → now ≡ from ++ drop (length from) before
+copied_whole {from} {before} {now} {k} h m =
+    let within = h.within in
     let e : k ≡ length from = omega arith in
     h.so_far ∙ rw (e, take_all (length from) from (omega arith))

@@ -1,14 +1,18 @@
 -- What the contracts of private functions say.
 -- Assumes nothing.
-use Rattle.std.specs.Prelude.{Bool, List, [], ◌∷◌, ℕ, ◌+◌, ◌*◌, ◌^◌, ◌≤◌, ◌<◌, ltb, get_or}
+use Rattle.std.specs.Prelude.{Bool, List, [], ◌∷◌, ℕ, ◌+◌, ◌*◌, ◌^◌, ◌≤◌, ◌<◌, ltb, get_or, Result, Ok, Err}
 use Rattle.price.specs.Lists.{up_to}
 use Rattle.job.specs.Tables.{nets_most}
 use Rattle.negotiation.specs.Records.{Record}
 use Rattle.text.specs.Lines.{print_line}
 use Rattle.text.specs.Users.{nets_with}
 use Rattle.uses.specs.Uses.{kind_count, letter_u, over_kind}
-use Rattle.uses.specs.declared.counts.CountsTest.{CountsTest}
-use Rattle.uses.specs.declared.counts.CountsTest.TheVariants as t
+use Rattle.uses.specs.declared.counts.CountsRefusal.{CountsRefusal}
+use Rattle.uses.specs.declared.counts.CountsRefusal.TheVariants as t
+use Rattle.uses.specs.declared.AddRefusal.{AddRefusal}
+use Rattle.uses.specs.declared.AddRefusal.TheVariants as a
+use Rattle.uses.specs.declared.PrintRefusal.{PrintRefusal}
+use Rattle.uses.specs.declared.PrintRefusal.TheVariants as p
 
 -- ---- sums by kind
 
@@ -26,10 +30,19 @@ AtMost most xs = (k : ℕ) → k < kind_count → get_or xs k 0 ≤ most
 
 -- ---- the counts' test
 
-abbrev pub test_refusal : CountsTest → List ℕ
-test_refusal t.Fine = []
-test_refusal (t.BadTable table) = 5 ∷ table ∷ []
-test_refusal (t.BadCount kind) = 13 ∷ kind ∷ []
+abbrev pub test_refusal : Result (Unit {0}) CountsRefusal → List ℕ
+test_refusal (Ok _) = []
+test_refusal (Err (t.BadTable table)) = 5 ∷ table ∷ []
+test_refusal (Err (t.BadCount kind)) = 13 ∷ kind ∷ []
+
+-- the same refusal by each call
+abbrev pub add_due : CountsRefusal → AddRefusal
+add_due (t.BadTable table) = a.BadTable table
+add_due (t.BadCount kind) = a.BadCount kind
+
+abbrev pub print_due : CountsRefusal → PrintRefusal
+print_due (t.BadTable table) = p.BadTable table
+print_due (t.BadCount kind) = p.BadCount kind
 
 -- `too_many` with the kinds' nodes as a list
 abbrev pub over_nodes : List ℕ → List ℕ → ℕ → ℕ → Bool

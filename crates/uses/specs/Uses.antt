@@ -1,6 +1,6 @@
 -- Request 2.11, "Use of wires over many jobs": the uses of one log, the counts, and what the two calls answer and leave.
 -- Assumes nothing.
-use Rattle.std.specs.Prelude.{Bool, not, List, [], ◌∷◌, ℕ, zero, suc, ◌+◌, ◌*◌, eqb, leb, ltb, length, get_or}
+use Rattle.std.specs.Prelude.{Bool, not, List, [], ◌∷◌, ℕ, zero, suc, ◌+◌, ◌*◌, eqb, leb, ltb, length, get_or, Result, Ok, Err}
 use Rattle.price.specs.Test.{choose}
 use Rattle.price.specs.Bounds.{kind_most}
 use Rattle.price.specs.Lists.{up_to, first_below}
@@ -12,10 +12,10 @@ use Rattle.text.specs.Lines.{print_line}
 use Rattle.text.specs.Printed.{concat_from}
 use Rattle.text.specs.Users.{below_nodes, nets_with}
 use Rattle.text.specs.Routes.{Named, log_sound, sound_words, WriteReply, not_written, text_reply}
-use Rattle.uses.specs.declared.AddAnswer.{AddAnswer}
-use Rattle.uses.specs.declared.AddAnswer.TheVariants as a
-use Rattle.uses.specs.declared.PrintAnswer.{PrintAnswer}
-use Rattle.uses.specs.declared.PrintAnswer.TheVariants as p
+use Rattle.uses.specs.declared.AddRefusal.{AddRefusal}
+use Rattle.uses.specs.declared.AddRefusal.TheVariants as a
+use Rattle.uses.specs.declared.PrintRefusal.{PrintRefusal}
+use Rattle.uses.specs.declared.PrintRefusal.TheVariants as p
 
 -- "for each kind from 0 to 53"
 abbrev pub kind_count : ℕ
@@ -103,23 +103,20 @@ unfoldable pub add_reply : Block → UseCounts → List ℕ → AddReply
 add_reply b c log = choose (leb 1 (length (counts_refusal b c))) (add_reply_with (counts_refusal b c) c) (tested_reply b c log)
 
 -- 01's numbers for each case of the answer
-abbrev pub add_refusal : AddAnswer → List ℕ
-add_refusal (a.Added logs) = []
-add_refusal (a.BadTable table) = 5 ∷ table ∷ []
-add_refusal (a.BadCount kind) = 13 ∷ kind ∷ []
-add_refusal (a.Unsound word) = 10 ∷ word ∷ []
-add_refusal (a.LogsFull most) = 16 ∷ most ∷ []
+abbrev pub add_refusal : Result ℕ AddRefusal → List ℕ
+add_refusal (Ok logs) = []
+add_refusal (Err (a.BadTable table)) = 5 ∷ table ∷ []
+add_refusal (Err (a.BadCount kind)) = 13 ∷ kind ∷ []
+add_refusal (Err (a.Unsound word)) = 10 ∷ word ∷ []
+add_refusal (Err (a.LogsFull most)) = 16 ∷ most ∷ []
 
 -- the number of logs handed back: the one handed in after a refusal
-abbrev pub logs_after : ℕ → AddAnswer → ℕ
-logs_after before (a.Added logs) = logs
-logs_after before (a.BadTable table) = before
-logs_after before (a.BadCount kind) = before
-logs_after before (a.Unsound word) = before
-logs_after before (a.LogsFull most) = before
+abbrev pub logs_after : ℕ → Result ℕ AddRefusal → ℕ
+logs_after before (Ok logs) = logs
+logs_after before (Err refusal) = before
 
 -- the answer with the uses at the call's end
-abbrev pub add_reply_of : ℕ → AddAnswer → List ℕ → AddReply
+abbrev pub add_reply_of : ℕ → Result ℕ AddRefusal → List ℕ → AddReply
 add_reply_of logs r uses = add_reply_with (add_refusal r) (use_counts_of uses (logs_after logs r))
 
 -- ---- printing
@@ -137,17 +134,15 @@ unfoldable pub print_reply : Block → UseCounts → List ℕ → WriteReply
 print_reply b c buffer =
     choose (leb 1 (length (counts_refusal b c))) (not_written (counts_refusal b c) buffer) (text_reply (uses_text b c) buffer)
 
-abbrev pub print_refusal : PrintAnswer → List ℕ
-print_refusal (p.Written bytes) = []
-print_refusal (p.BadTable table) = 5 ∷ table ∷ []
-print_refusal (p.BadCount kind) = 13 ∷ kind ∷ []
-print_refusal (p.ShortBuffer needed) = 11 ∷ needed ∷ []
+abbrev pub print_refusal : Result ℕ PrintRefusal → List ℕ
+print_refusal (Ok bytes) = []
+print_refusal (Err (p.BadTable table)) = 5 ∷ table ∷ []
+print_refusal (Err (p.BadCount kind)) = 13 ∷ kind ∷ []
+print_refusal (Err (p.ShortBuffer needed)) = 11 ∷ needed ∷ []
 
-abbrev pub printed_bytes : PrintAnswer → ℕ
-printed_bytes (p.Written bytes) = bytes
-printed_bytes (p.BadTable table) = 0
-printed_bytes (p.BadCount kind) = 0
-printed_bytes (p.ShortBuffer needed) = 0
+abbrev pub printed_bytes : Result ℕ PrintRefusal → ℕ
+printed_bytes (Ok bytes) = bytes
+printed_bytes (Err refusal) = 0
 
-abbrev pub print_reply_of : PrintAnswer → List ℕ → WriteReply
+abbrev pub print_reply_of : Result ℕ PrintRefusal → List ℕ → WriteReply
 print_reply_of r buffer = record { refusal = print_refusal r; bytes = printed_bytes r; buffer = buffer }

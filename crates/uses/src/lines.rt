@@ -8,7 +8,7 @@ ghost use Rattle.search.specs.Tables.{kinds_sound, capacities_sound};
 ghost use Rattle.uses.specs.Uses.{kind_count, logs_most, use_counts_of, uses_text, print_reply_of};
 ghost use Rattle.uses.specs.Steps.{total_line};
 
-use crate::{KINDS, PrintAnswer, tally};
+use crate::{KINDS, PrintRefusal, tally};
 use search::NODES_MOST;
 
 // More bytes than the lines of all kinds can have.
@@ -23,11 +23,9 @@ fn put_lines(uses: &[u64], totals: &[u64], logs: u64, buffer: &mut [u8]) -> usiz
         Put 0 text buffer.old buffer.new result }
 {
     let mut at = 0;
-    let mut k = 0;
-    while k < KINDS {
+    for k in 0..KINDS {
         let fields = [k as u64, uses[k], totals[k] * logs];
         at = text::print_line(b'U', &fields, buffer, at);
-        k += 1;
     }
     at
 }
@@ -39,7 +37,7 @@ pub fn put_uses(
     uses: &[u64; KINDS],
     logs: u64,
     buffer: &mut [u8],
-) -> PrintAnswer
+) -> Result<usize, PrintRefusal>
     requires { (kinds_sound kind.now ≡ true) × (capacities_sound (length kind.now) capacity.now ≡ true) × (logs ≤ logs_most) }
     ensures { let text = uses_text (block_of kind.now capacity.now [] []) (use_counts_of uses.now logs) in
         print_reply_of result buffer.new ≡ text_reply text buffer.old }
@@ -51,7 +49,7 @@ pub fn put_uses(
     let mut trial = [0u8; TEXT_MOST];
     let needed = put_lines(uses, &totals, logs, &mut trial);
     if buffer.len() < needed {
-        return PrintAnswer::ShortBuffer(needed as u64);
+        return Err(PrintRefusal::ShortBuffer(needed as u64));
     }
-    PrintAnswer::Written(put_lines(uses, &totals, logs, buffer))
+    Ok(put_lines(uses, &totals, logs, buffer))
 }

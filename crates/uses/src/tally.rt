@@ -10,11 +10,8 @@ pub fn tally(kind: &[u8], weight: &[u16], sums: &mut [u64])
     requires sums_len { (length sums.old ≡ kind_count) × AtMost count_most sums.old }
     ensures { sums.new ≡ tallied kind.now weight.now sums.old }
 {
-    let mut v = 0;
-    while v < kind.len() {
-        let k = kind[v] as usize;
-        sums[k] += weight[v] as u64;
-        v += 1;
+    for (v, k) in kind.iter().enumerate() {
+        sums[*k as usize] += weight[v] as u64;
     }
 }
 
@@ -23,9 +20,7 @@ pub fn widen(bytes: &[u8], wide: &mut [u16])
     requires { length bytes.now ≤ length wide.old }
     ensures { wide.new ≡ bytes.now ++ drop (length bytes.now) wide.old }
 {
-    let mut v = 0;
-    while v < bytes.len() {
-        wide[v] = bytes[v] as u16;
-        v += 1;
+    for (v, b) in bytes.iter().enumerate() {
+        wide[v] = *b as u16;
     }
 }

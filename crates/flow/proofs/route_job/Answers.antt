@@ -1,77 +1,42 @@
--- `flow::route_job` meets its contract: the words used fit the log, and each case of the outcome has its law.
+-- `flow::route_job` meets its contract: the words used fit the log, and a refusal's numbers are the router's or the writer's.
 -- Assumes nothing.
-use mathlib.Core.List.{List, ◌∷◌}
-use mathlib.Core.Path.{◌≡◌, refl}
-use Prim.Native.Nat.{ℕ}
-use Rattle.job.specs.Job.{Job, job_of}
-use Rattle.negotiation.specs.Outcome.{route_refusal}
-use Rattle.negotiation.specs.declared.Outcome.{Outcome}
-use Rattle.text.specs.ReadReplies.{Tables}
-use Rattle.flow.specs.RunReplies.{lent_of, run_reply_with, route_run}
-use Rattle.flow.proofs.RunLaws.{words_fit, never_found, run_accepted, run_refused}
-use Rattle.flow.proofs.route_job.Goals.{After-route-r}
+use mathlib.Core.Path.{◌∙◌, sym}
+use lib.Seq.{length-take-le}
+use Rattle.std.proofs.lemmas.Result.{err_from_is_err_and}
+use Rattle.job.specs.Lent.{job_in}
+use Rattle.flow.proofs.RunLaws.{words_fit, run_accepted, run_refused, write_refused}
 use Rattle.flow.proofs.route_job.Goals as goal
 
-abbrev job : After-route-r → Job
-job c =
+pub slice_bounds-write_style-end : goal.slice_bounds-write_style-end
+slice_bounds-write_style-end c =
+    let r = c.route-r in
+    words_fit (job_in c.args.job.now) c.args.work.now c.args.log.now r.result r.new.work r.new.log r.ensures.demand.as_negotiated
+
+pub slice_bounds-write_style-end-in-None : goal.slice_bounds-write_style-end-in-None
+slice_bounds-write_style-end-in-None c =
+    let r = c.route-r in
+    sym (length-take-le _ _ (words_fit (job_in c.args.job.now) c.args.work.now c.args.log.now r.result r.new.work r.new.log r.ensures.demand.as_negotiated))
+
+pub returns-in-Some : goal.returns-in-Some
+returns-in-Some c =
     let a = c.args in
-    job_of a.kind.now a.capacity.now a.first_edge.now a.edge_target.now a.source.now a.first_sink.now a.sink.now
-    a.delay.now a.criticality.now a.terms
+    let r = c.route-r in
+    run_refused (job_in a.job.now) a.work.now a.log.now r.result r.new.work r.new.log r.ensures.demand.as_negotiated
+    a.style a.routes.now c.in-Some.refused c.in-Some.ensures
 
--- what the router leaves in work slice and log
-abbrev work-left : After-route-r → List ℕ
-work-left c = c.route-r.new.work
-
-abbrev log-left : After-route-r → List ℕ
-log-left c = c.route-r.new.log
-
--- a job that the router refuses
-refused : (c : After-route-r) (k : ℕ) (ks : List ℕ) (o : Outcome) → c.route-r.result.outcome ≡ o
-    → route_refusal o c.route-r.result.iteration c.route-r.result.turns ≡ k ∷ ks → (t : Tables)
-    → run_reply_with (k ∷ ks) 0 (lent_of t (work-left c) (log-left c) c.args.routes.now)
-    ≡ route_run c.args.style (job c) t c.args.work.now c.args.log.now c.args.routes.now
-refused c =
+pub returns-in_err-write_style-in-None : goal.returns-in_err-write_style-in-None
+returns-in_err-write_style-in-None c =
     let a = c.args in
-    run_refused (job c) a.work.now a.log.now c.route-r.result (work-left c) (log-left c) c.route-r.ensures.demand.as_negotiated a.style a.routes.now
+    let r = c.route-r in
+    let p = err_from_is_err_and c.from_residual.result c.from_residual.ensures.1 in
+    rw p.1
+    (run_accepted (job_in a.job.now) a.work.now a.log.now r.result r.new.work r.new.log r.ensures.demand.as_negotiated
+    a.style a.routes.now _ c.write_style.new.buffer c.in-None.ensures
+    (write_refused p.0 p.2 c.write_style.new.buffer ∙ c.in_err-write_style-in-None.ensures.answers))
 
-pub write_used-requires : goal.write_used-requires
-write_used-requires c =
+pub returns-in_ok-write_style-in-None : goal.returns-in_ok-write_style-in-None
+returns-in_ok-write_style-in-None c =
     let a = c.args in
-    let d = (goal.at.write_used-requires c).After-route-r in
-    words_fit (job d) a.work.now a.log.now c.route-r.result (work-left d) (log-left d) c.route-r.ensures.demand.as_negotiated
-
-pub returns-in-Accepted : goal.returns-in-Accepted
-returns-in-Accepted c =
-    let a = c.args in
-    let d = (goal.at.returns-in-Accepted c).After-route-r in
-    run_accepted (job d) a.work.now a.log.now c.route-r.result (work-left d) (log-left d) c.route-r.ensures.demand.as_negotiated
-    a.style a.routes.now c.write_used.result c.write_used.new.routes c.in-Accepted.is c.write_used.ensures
-
-pub returns-in-Unreachable : goal.returns-in-Unreachable
-returns-in-Unreachable c = refused (goal.at.returns-in-Unreachable c).After-route-r _ _ _ c.in-Unreachable.is refl
-
-pub returns-in-LogFull : goal.returns-in-LogFull
-returns-in-LogFull c = refused (goal.at.returns-in-LogFull c).After-route-r _ _ _ c.in-LogFull.is refl
-
-pub returns-in-Limit : goal.returns-in-Limit
-returns-in-Limit c = refused (goal.at.returns-in-Limit c).After-route-r _ _ _ c.in-Limit.is refl
-
-pub returns-in-BadTable : goal.returns-in-BadTable
-returns-in-BadTable c = refused (goal.at.returns-in-BadTable c).After-route-r _ _ _ c.in-BadTable.is refl
-
-pub returns-in-ShortWork : goal.returns-in-ShortWork
-returns-in-ShortWork c = refused (goal.at.returns-in-ShortWork c).After-route-r _ _ _ c.in-ShortWork.is refl
-
-pub returns-in-Diverges : goal.returns-in-Diverges
-returns-in-Diverges c = refused (goal.at.returns-in-Diverges c).After-route-r _ _ _ c.in-Diverges.is refl
-
-pub returns-in-TooLarge : goal.returns-in-TooLarge
-returns-in-TooLarge c = refused (goal.at.returns-in-TooLarge c).After-route-r _ _ _ c.in-TooLarge.is refl
-
-pub returns-in-NotCheapest : goal.returns-in-NotCheapest
-returns-in-NotCheapest c =
-    let a = c.args in
-    let d = (goal.at.returns-in-NotCheapest c).After-route-r in
-    absurd
-    (never_found (job d) a.work.now a.log.now c.route-r.result (work-left d) (log-left d) c.route-r.ensures.demand.as_negotiated
-    c.in-NotCheapest.is)
+    let r = c.route-r in
+    run_accepted (job_in a.job.now) a.work.now a.log.now r.result r.new.work r.new.log r.ensures.demand.as_negotiated
+    a.style a.routes.now _ c.write_style.new.buffer c.in-None.ensures c.in_ok-write_style-in-None.ensures.answers

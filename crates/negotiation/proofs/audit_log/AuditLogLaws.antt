@@ -7,6 +7,7 @@ use Prim.Native.Nat.{ℕ, ◌-◌, ◌*◌, ◌≤◌, ◌<◌}
 use native.Mathlib.Omega.{arith}
 use lib.ListN.{length, take, drop, replicate}
 use borrow.Author.Tests.{lt-ltb, le-ltb}
+use Rattle.std.specs.Prelude.{Option, Some, None, Result, Ok, Err}
 use Rattle.search.specs.Replies.{work_needed, cleared}
 use Rattle.job.specs.Job.{Job, nodes}
 use Rattle.negotiation.specs.Machine.{first_state}
@@ -19,15 +20,19 @@ use Rattle.negotiation.specs.Records.{Record}
 use Rattle.negotiation.specs.Steps.{SameFrom, missing, reach_numbers}
 use Rattle.negotiation.specs.declared.AuditAnswer.{AuditAnswer}
 use Rattle.negotiation.specs.declared.Outcome.TheVariants.{Diverges, Unreachable}
-use Rattle.negotiation.specs.declared.reach.Reach.{Reach}
-use Rattle.negotiation.specs.declared.reach.Reach.TheVariants.{All, Missing}
-use Rattle.negotiation.specs.declared.take_up.Taken.{Taken}
-use Rattle.negotiation.specs.declared.take_up.Taken.TheVariants as taken
+use Rattle.negotiation.specs.declared.reach.Missing.{Missing}
+use Rattle.negotiation.specs.declared.tariff.Tariff.{Tariff}
+use Rattle.negotiation.specs.declared.take_up.Stopped.{Stopped}
+use Rattle.negotiation.specs.declared.take_up.Stopped.TheVariants as stopped
 use Rattle.negotiation.specs.declared.take_up.Told.{Told}
 use Rattle.negotiation.proofs.EndLaws.{cleared-same}
 use Rattle.negotiation.proofs.RouteLaws.{left-same, reached-missing, reached_run}
 
 -- ---- what the log came to
+
+-- the answer where it is followed no further
+pub answered_err : {taken : Result Tariff Stopped} {e s : Stopped} → taken ≡ Err e → e ≡ s → audit_answer (Err s) ≡ audit_answer taken
+answered_err is e-is = sym (ap audit_answer (is ∙ ap Err e-is))
 
 -- the iterations before the one that is begun are whole
 whole_before : {rs : List Record} {iteration over : ℕ} {at : Told} → ToldAt rs iteration over at → at.whole ≡ iteration - 1
@@ -52,18 +57,18 @@ module _ (j : Job) (used : ℕ) (work log w w' : List ℕ) (kept : SameFrom (8 *
     unfolding replay_by
     replay-is = rw (le-ltb (length log) used within)
 
-    by_taken : (t : Taken) (history users marks from to dues : List ℕ) → LogTaken true t j history users marks from to dues (take used log) → Audits (audit_answer t)
-    by_taken (taken.On t) history users marks from to dues o = rw (replay-is ∙ o.is, left_is, o.ready.tallied.words-is)
-    by_taken (taken.Off word) history users marks from to dues q = rw (replay-is ∙ q, left_is)
-    by_taken (taken.Ends at) history users marks from to dues o =
+    by_taken : (t : Result Tariff Stopped) (history users marks from to dues : List ℕ) → LogTaken true t j history users marks from to dues (take used log) → Audits (audit_answer t)
+    by_taken (Ok t) history users marks from to dues o = rw (replay-is ∙ o.is, left_is, o.ready.tallied.words-is)
+    by_taken (Err (stopped.Off word)) history users marks from to dues q = rw (replay-is ∙ q, left_is)
+    by_taken (Err (stopped.Ends at)) history users marks from to dues o =
         let t = o.told_at in
         rw (replay-is ∙ o.is, left_is, t.turns-is, whole_before t, t.over-is)
-    by_taken (taken.NotCheapest at cost least) history users marks from to dues o =
+    by_taken (Err (stopped.NotCheapest at cost least)) history users marks from to dues o =
         let t = o.told_at in
         rw (replay-is ∙ o.is, left_is, t.turns-is, t.words-is, whole_before t, t.over-is)
 
     pub taken_audited :
-        (t : Taken) (history users marks from to dues : List ℕ) → LogTaken true t j history users marks from to dues (take used log)
+        (t : Result Tariff Stopped) (history users marks from to dues : List ℕ) → LogTaken true t j history users marks from to dues (take used log)
         → (r : AuditAnswer) → r ≡ audit_answer t → Audits r
     taken_audited t history users marks from to dues came r q = ap (λ (x : AuditAnswer). audit_reply_of x w') q ∙ by_taken t history users marks from to dues came
 
@@ -76,7 +81,7 @@ module _ (j : Job) (work w : List ℕ) (kept : SameFrom (work_needed (nodes j)) 
   audited_same (ends p) = rw (left-same j work w kept)
   audited_same (not_cheapest p cost least) = rw (left-same j work w kept)
 
-  module _ (found : Reach) (test : reach_numbers found ≡ missing j) (used : ℕ) (log : List ℕ) where
+  module _ (found : Option Missing) (test : reach_numbers found ≡ missing j) (used : ℕ) (log : List ℕ) where
     abbrev run : AuditReply
     run = audited_reply j (replay_by true j used log) work
 
@@ -85,10 +90,10 @@ module _ (j : Job) (work w : List ℕ) (kept : SameFrom (work_needed (nodes j)) 
     Reaches r = r ≡ reached refused_audit j work run
 
     pub unreachable_audited :
-        (net place : ℕ) (r : AuditAnswer) (w' : List ℕ) → found ≡ Missing net place → r ≡ refused_audit_answer (Unreachable net place)
+        (at : Missing) (r : AuditAnswer) (w' : List ℕ) → found ≡ Some at → r ≡ refused_audit_answer (Unreachable at.net at.place)
         → w' ≡ replicate (work_needed (nodes j)) 0 ++ drop (work_needed (nodes j)) w → Reaches (audit_reply_of r w')
-    unreachable_audited net place r w' f q e =
-        rw (q, e ∙ cleared-same (nodes j) work w kept) (sym (reached-missing j found test refused_audit work run net place f))
+    unreachable_audited at r w' f q e =
+        rw (q, e ∙ cleared-same (nodes j) work w kept) (sym (reached-missing j found test refused_audit work run at f))
 
-    pub run_audited : (r : AuditReply) → found ≡ All → r ≡ audited_reply j (replay_by true j used log) w → Reaches r
+    pub run_audited : (r : AuditReply) → found ≡ None → r ≡ audited_reply j (replay_by true j used log) w → Reaches r
     run_audited r f e = e ∙ audited_same (replay_by true j used log) ∙ sym (reached_run j found test refused_audit work run f)

@@ -14,14 +14,13 @@ use lib.Dec.{eqb}
 use lib.ListN.{get_or, drop}
 use lib.Seq.{slice, get_or-drop}
 use borrow.Author.Tests.{eq-eqb, ne_eqb}
+use Rattle.std.specs.Prelude.{Option, Some, None}
 use Rattle.price.specs.Test.{choose}
 use Rattle.search.specs.Block.{Block, nodes}
 use Rattle.search.specs.Turn.{Congestion, price_at}
 use Rattle.negotiation.specs.Resume.{record_path}
 use Rattle.job.specs.Steps.{Stored}
 use Rattle.negotiation.specs.ResumeSteps.{pass_cost, RecordReady, PassReady, costs_of, PathMarked, cost_is, named_cost, frame_follows, turn_passes}
-use Rattle.negotiation.specs.declared.follow.PathCost.{PathCost}
-use Rattle.negotiation.specs.declared.follow.PathCost.TheVariants.{Cost, Strays}
 use Rattle.negotiation.proofs.FrameLaws.{path_count, path_read, frame_at}
 
 -- ---- the words of a cost
@@ -44,10 +43,10 @@ module _ {b : Block} {c : Congestion} {goals marks log : List ℕ} {at : ℕ} (r
   passes = turn_passes b (price_at b c) goals marks iteration net (drop at log)
 
   -- its words, none where it doesn't follow
-  abbrev count : ℕ
-  count = choose passes (6 + get_or (drop at log) 5 0) 0
+  abbrev count : Option ℕ
+  count = choose passes (Some (6 + get_or (drop at log) 5 0)) None
 
-  pub turn_unframed : frame_follows (nodes b) iteration net (drop at log) ≡ false → ◌≡◌ {A = ℕ} 0 count
+  pub turn_unframed : frame_follows (nodes b) iteration net (drop at log) ≡ false → None ≡ count
   unfolding turn_passes
   turn_unframed e = rw e
 
@@ -75,30 +74,30 @@ module _ {b : Block} {c : Congestion} {goals marks log : List ℕ} {at : ℕ} (r
           few = omega arith;
         }
 
-    module _ {r : PathCost} (e : costs_of r ≡ pass_cost b (price_at b c) goals marks (slice (at + 6) to log)) where
+    module _ {r : Option ℕ} (e : costs_of r ≡ pass_cost b (price_at b c) goals marks (slice (at + 6) to log)) where
       -- the pass decides, and its cost
-      passes_is : (r' : PathCost) → r ≡ r' → passes ≡ cost_is (drop at log) (costs_of r')
+      passes_is : (r' : Option ℕ) → r ≡ r' → passes ≡ cost_is (drop at log) (costs_of r')
       unfolding turn_passes
       passes_is r' q =
           let same : pass_cost b (price_at b c) goals marks (record_path (drop at log)) ≡ costs_of r' =
           ap (pass_cost b (price_at b c) goals marks) (path_read log at) ∙ sym e ∙ ap costs_of q in
           rw (t, same)
 
-      pub turn_strays : r ≡ Strays → ◌≡◌ {A = ℕ} 0 count
-      turn_strays q = rw (passes_is Strays q)
+      pub turn_strays : r ≡ None → None ≡ count
+      turn_strays q = rw (passes_is None q)
 
-      module _ {cost : ℕ} (q : r ≡ Cost cost) where
-        pub turn_dear : cost_is (drop at log) (cost ∷ []) ≡ false → ◌≡◌ {A = ℕ} 0 count
-        turn_dear off = rw (passes_is (Cost cost) q ∙ off)
+      module _ {cost : ℕ} (q : r ≡ Some cost) where
+        pub turn_dear : cost_is (drop at log) (cost ∷ []) ≡ false → None ≡ count
+        turn_dear off = rw (passes_is (Some cost) q ∙ off)
 
-        pub turn_on : cost_is (drop at log) (cost ∷ []) ≡ true → to - at ≡ count
+        pub turn_on : cost_is (drop at log) (cost ∷ []) ≡ true → Some (to - at) ≡ count
         turn_on on =
             let five = get_or-drop at log 5 0 in
             let words : to - at ≡ 6 + get_or (drop at log) 5 0 = omega arith in
-            rw (passes_is (Cost cost) q ∙ on) words
+            rw (passes_is (Some cost) q ∙ on) (ap Some words)
 
     pub turn-marked :
-        {r : PathCost} {cost : ℕ} {marks' : List ℕ} → r ≡ Cost cost → PathMarked r (slice (at + 6) to log) marks marks'
+        {r : Option ℕ} {cost : ℕ} {marks' : List ℕ} → r ≡ Some cost → PathMarked r (slice (at + 6) to log) marks marks'
         → Stored 1 (record_path (drop at log)) marks marks'
     turn-marked {marks' = marks'} q m =
-        rw (path_read log at) (subst (λ (r : PathCost). PathMarked r (slice (at + 6) to log) marks marks') q m)
+        rw (path_read log at) (subst (λ (r : Option ℕ). PathMarked r (slice (at + 6) to log) marks marks') q m)

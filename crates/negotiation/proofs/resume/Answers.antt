@@ -1,6 +1,7 @@
 -- `negotiation::resume` meets its contract: a run from the words used, and what is promised of it.
 -- Assumes nothing.
-use Rattle.job.specs.Job.{Job, job_of}
+use Rattle.job.specs.Job.{Job}
+use Rattle.job.specs.Lent.{job_in}
 use Rattle.negotiation.specs.Outcome.{route_reply_of}
 use Rattle.negotiation.proofs.RouteLaws.{resume_answered}
 use Rattle.negotiation.proofs.resume.Goals.{Start}
@@ -9,8 +10,7 @@ use Rattle.negotiation.proofs.resume.Goals as goal
 -- the job that is lent
 abbrev job : Start → Job
 job e =
-    job_of e.args.kind.now e.args.capacity.now e.args.first_edge.now e.args.edge_target.now e.args.source.now
-    e.args.first_sink.now e.args.sink.now e.args.delay.now e.args.criticality.now e.args.terms
+    job_in e.args.job.now
 
 pub returns : goal.returns
 returns c = record {

@@ -4,7 +4,8 @@ use mathlib.Core.Path.{◌≡◌, sym}
 use native.Mathlib.Nat.{le_of_eq, le_trans}
 use native.Mathlib.Omega.{arith}
 use Rattle.search.proofs.BlockLaws.{kinds-few}
-use Rattle.job.specs.Job.{Job, job_of}
+use Rattle.job.specs.Job.{Job}
+use Rattle.job.specs.Lent.{job_in}
 use Rattle.negotiation.specs.Steps.{missing, reach_numbers}
 use Rattle.negotiation.proofs.RefusalLaws.{refused-counts}
 use Rattle.negotiation.proofs.RouteLaws.{unreachable_refused, none-missing, run_answered}
@@ -14,47 +15,36 @@ use Rattle.negotiation.proofs.route_joined.Goals as goal
 -- the job that is lent
 abbrev job : After-unreachable → Job
 job u =
-    job_of u.args.kind.now u.args.capacity.now u.args.first_edge.now u.args.edge_target.now
-    u.args.source.now u.args.first_sink.now u.args.sink.now u.args.delay.now u.args.criticality.now u.args.terms
+    job_in u.args.job.now
 
 test : (u : After-unreachable) → reach_numbers u.unreachable.result ≡ missing (job u)
-test u =
-    u.unreachable.ensures.first_missing u.args.capacity.now u.args.delay.now u.args.criticality.now u.args.terms u.requires.0
+test u = u.unreachable.ensures.first_missing
 
 pub unreachable-requires : goal.unreachable-requires
-unreachable-requires c = record {
-  routable_with = record {
-    capacities = c.args.capacity.now;
-    delays = c.args.delay.now;
-    criticalities = c.args.criticality.now;
-    terms = c.args.terms;
-    routable = c.requires.0;
-  };
-  kind_in_bounds = c.requires.1;
-}
+unreachable-requires c = c.requires
 
-pub overflow_mul-kind : goal.overflow_mul-kind
-overflow_mul-kind c =
-    let few = kinds-few c.args.kind.now c.requires.0.block-sound.kinds_sound_lem in
+pub overflow_mul-job : goal.overflow_mul-job
+overflow_mul-job c =
+    let few = kinds-few c.args.job.now.block.kind.now c.requires.0.block-sound.kinds_sound_lem in
     omega arith
 
 pub negotiate-requires : goal.negotiate-requires
 negotiate-requires c =
     let at = (goal.at.negotiate-requires c).After-unreachable in
-    (c.requires.0, none-missing (job at) _ (test at) c.in-All.is, le_trans c.requires.1 (le_of_eq (sym c.unreachable.ensures.same_from.long)))
+    (c.requires.0, none-missing (job at) _ (test at) c.in-None.is, le_trans c.requires.1 (le_of_eq (sym c.unreachable.ensures.same_from.long)))
 
-pub returns-in-Missing : goal.returns-in-Missing
-returns-in-Missing c =
-    let at = (goal.at.returns-in-Missing c).After-unreachable in record {
+pub returns-in-Some : goal.returns-in-Some
+returns-in-Some c =
+    let at = (goal.at.returns-in-Some c).After-unreachable in record {
       answers = unreachable_refused c.args.start (job at) _ _ _ (test at) _ c.unreachable.ensures.same_from
-          _ _ _ _ c.in-Missing.is c.refused.ensures c.clear.ensures;
+          _ _ _ c.in-Some.is c.refused.ensures c.clear.ensures;
       expanded = refused-counts c.args.aimed (job at) _ c.refused.result c.args.log.now c.refused.ensures;
     }
 
-pub returns-in-All : goal.returns-in-All
-returns-in-All c =
-    let at = (goal.at.returns-in-All c).After-unreachable in record {
+pub returns-in-None : goal.returns-in-None
+returns-in-None c =
+    let at = (goal.at.returns-in-None c).After-unreachable in record {
       answers = run_answered c.args.start (job at) _ _ _ (test at) _ c.unreachable.ensures.same_from
-          c.negotiate.result c.negotiate.new.work c.negotiate.new.log c.in-All.is c.negotiate.ensures.answers;
+          c.negotiate.result c.negotiate.new.work c.negotiate.new.log c.in-None.is c.negotiate.ensures.answers;
       expanded = c.negotiate.ensures.expanded;
     }

@@ -1,179 +1,172 @@
--- What the next record of a net comes to, by the tests that are made of it, and what the net then comes to.
+-- What the next record of a net comes to, by the tests that are made of it.
 --     end-asked                           an audit's words end
 --     judged-                             the record strays, costs more than the least, or follows
 --     said-                               as the call answers
---     stopped-                            so the net comes to nothing more, or goes on
 --     whole-                              behind a whole iteration
 -- Assumes nothing.
 use mathlib.Core.Bool.{Bool, true, false}
 use mathlib.Core.List.{List}
-use mathlib.Core.Path.{◌≡◌, sym, ◌∙◌, ap}
+use mathlib.Core.Path.{◌≡◌, refl, sym, ◌∙◌, ap}
 use Prim.Native.Nat.{ℕ, ◌+◌, ◌-◌, ◌≤◌, ◌<◌}
 use native.Mathlib.Omega.{arith}
 use lib.Dec.{eqb, leb, ltb}
 use lib.ListN.{get_or}
 use borrow.Author.Tests.{eq-eqb, ne_eqb, lt-ltb, le-ltb}
+use Rattle.std.proofs.lemmas.Result.{err_from_is_err_and}
+use Rattle.std.specs.Result.{IsErrAnd}
+use Rattle.std.specs.Prelude.{Option, Some, None, Result, Ok, Err}
 use Rattle.price.specs.Test.{both, either}
 use Rattle.price.proofs.TestLaws.{by_test, true≢false}
 use Rattle.negotiation.specs.ResumeSteps.{named_cost}
-use Rattle.negotiation.specs.TakeSteps.{told_of, stopped_at, judged_as, tried_as, whole_as}
+use Rattle.negotiation.specs.TakeSteps.{told_of, judged_as, tried_as, whole_as}
 use Rattle.negotiation.specs.declared.tariff.Tariff.{Tariff}
-use Rattle.negotiation.specs.declared.take_up.Taken.{Taken}
-use Rattle.negotiation.specs.declared.take_up.Taken.TheVariants.{On, Off, Ends, NotCheapest}
+use Rattle.negotiation.specs.declared.take_up.Stopped.{Stopped}
+use Rattle.negotiation.specs.declared.take_up.Stopped.TheVariants.{Off, Ends, NotCheapest}
 use Rattle.negotiation.specs.declared.take_up.Told.{Told}
-use Rattle.negotiation.specs.declared.take_up.Tried.{Tried}
-use Rattle.negotiation.specs.declared.take_up.Tried.TheVariants as tried
-use Rattle.negotiation.specs.declared.take_up.Tried.TheVariants.{Strays, Follows}
+use Rattle.negotiation.specs.declared.take_up.Walk.{Walk}
 
 pub end-asked : {audit : Bool} (end : Bool) → audit ≡ true → end ≡ both audit end
 end-asked end e = rw e
 
+-- what the exit of a `?` returns
+pub sent_on : {A : Type 0} (r : Result A Stopped) {e : Stopped} → IsErrAnd r (λ x. x ≡ e) → r ≡ Err e
+sent_on r is = let p = err_from_is_err_and r is in p.1 ∙ ap Err p.2
+
 -- ---- a record
 
-abbrev is_follows : Tried → Bool
-is_follows Strays = false
-is_follows tried.Ends = false
-is_follows (tried.NotCheapest cost least) = false
-is_follows (Follows count) = true
+abbrev is_ok : Result ℕ Stopped → Bool
+is_ok (Ok count) = true
+is_ok (Err e) = false
 
-abbrev words_in : Tried → ℕ
-words_in Strays = 0
-words_in tried.Ends = 0
-words_in (tried.NotCheapest cost least) = 0
-words_in (Follows count) = count
+abbrev words_in : Result ℕ Stopped → ℕ
+words_in (Ok count) = count
+words_in (Err e) = 0
 
-pub no_end : {count : ℕ} → tried.Ends ≡ Follows count → ⊥
-no_end e = true≢false (sym (ap is_follows e))
+abbrev stopped_in : Stopped → Result ℕ Stopped → Stopped
+stopped_in d (Ok count) = d
+stopped_in d (Err e) = e
 
-pub judged_strays : (count cost least : ℕ) → count ≡ 0 → Strays ≡ judged_as count cost least
-unfolding judged_as
-judged_strays count cost least e = rw (eq-eqb count 0 e)
+pub stopped_same : {e e' : Stopped} → ◌≡◌ {A = Result ℕ Stopped} (Err e) (Err e') → e ≡ e'
+stopped_same {e} q = ap (stopped_in e) q
 
-pub judged_some : (count cost least : ℕ) {r : Tried} {words : ℕ} → r ≡ judged_as count cost least → r ≡ Follows words → count ≡ 0 → ⊥
-judged_some count cost least is e z = true≢false (ap is_follows (sym e ∙ is ∙ sym (judged_strays count cost least z)))
+pub not_both : {r : Result ℕ Stopped} {e : Stopped} {count : ℕ} → r ≡ Err e → r ≡ Ok count → ⊥
+not_both p q = true≢false (sym (ap is_ok q) ∙ ap is_ok p)
 
-module _ {count cost named least : ℕ} (is : cost ≡ named) (some : count ≡ 0 → ⊥) where
-  pub judged_dear : least < cost → tried.NotCheapest cost least ≡ judged_as count named least
+module _ (t : Tariff) (over : ℕ) where
+  judged_none : (count : Option ℕ) (cost least : ℕ) → count ≡ None → Err (Off t.words) ≡ judged_as t over count cost least
   unfolding judged_as
-  judged_dear l = rw (← is, ne_eqb count 0 some, lt-ltb least cost l)
+  judged_none count cost least e = rw e
 
-  pub judged-follows : cost ≤ least → Follows count ≡ judged_as count named least
-  unfolding judged_as
-  judged-follows l = rw (← is, ne_eqb count 0 some, le-ltb least cost l)
+  pub judged_strays : (count : Option ℕ) (cost least : ℕ) → ((k : ℕ) → count ≡ Some k → ⊥) → Err (Off t.words) ≡ judged_as t over count cost least
+  judged_strays None cost least other = judged_none None cost least refl
+  judged_strays (Some k) cost least other = absurd (other k refl)
+
+  pub judged_some :
+      (count : Option ℕ) (cost least : ℕ) {r : Result ℕ Stopped} {words : ℕ} → r ≡ judged_as t over count cost least → r ≡ Ok words → count ≡ None → ⊥
+  judged_some count cost least is e z = not_both (is ∙ sym (judged_none count cost least z)) e
+
+  module _ {count : Option ℕ} {k cost named least : ℕ} (is : cost ≡ named) (some : count ≡ Some k) where
+    pub judged_dear : {told : Told} → told ≡ told_of t (t.iteration - 1) over → least < cost → Err (NotCheapest told cost least) ≡ judged_as t over count named least
+    unfolding judged_as
+    judged_dear same l = rw (← is, some, lt-ltb least cost l) (ap (λ (x : Told). Err (NotCheapest x cost least)) same)
+
+    pub judged-follows : cost ≤ least → Ok k ≡ judged_as t over count named least
+    unfolding judged_as
+    judged-follows l = rw (← is, some, le-ltb least cost l)
 
 -- what the call answers, by the same tests
-module _ (audit ended passes : Bool) (ws : List ℕ) (least : ℕ) where
-  abbrev said : Tried
-  said = tried_as audit ended passes ws least
+module _ (t : Tariff) (walk : Walk) (ended passes : Bool) (ws : List ℕ) (least : ℕ) where
+  abbrev said : Result ℕ Stopped
+  said = tried_as t walk ended passes ws least
 
-  pub said_ends : both audit ended ≡ true → said ≡ tried.Ends
+  abbrev told_now : Told
+  told_now = told_of t (t.iteration - 1) walk.over
+
+  pub said_ends : both walk.audit ended ≡ true → said ≡ Err (Ends told_now)
   unfolding tried_as
   said_ends e = rw e
 
-  module _ (on : both audit ended ≡ false) where
-    pub said_strays : passes ≡ false → said ≡ Strays
+  module _ (on : both walk.audit ended ≡ false) where
+    pub said_strays : passes ≡ false → said ≡ Err (Off t.words)
     unfolding tried_as judged_as
     said_strays p = rw (on, p)
 
     module _ (yes : passes ≡ true) where
-      said_judged : said ≡ judged_as (6 + get_or ws 5 0) (named_cost ws) least
+      said_judged : said ≡ judged_as t walk.over (Some (6 + get_or ws 5 0)) (named_cost ws) least
       unfolding tried_as
       said_judged = rw (on, yes)
 
-      some_words : eqb (6 + get_or ws 5 0) 0 ≡ false
-      some_words = ne_eqb (6 + get_or ws 5 0) 0 (λ z. let n : 6 + get_or ws 5 0 ≡ 0 = z in omega arith)
-
-      pub said_dear : ltb least (named_cost ws) ≡ true → said ≡ tried.NotCheapest (named_cost ws) least
+      pub said_dear : ltb least (named_cost ws) ≡ true → said ≡ Err (NotCheapest told_now (named_cost ws) least)
       unfolding judged_as
-      said_dear d = said_judged ∙ rw (some_words, d)
+      said_dear d = said_judged ∙ rw d
 
-      pub said_follows : ltb least (named_cost ws) ≡ false → said ≡ Follows (6 + get_or ws 5 0)
+      pub said_follows : ltb least (named_cost ws) ≡ false → said ≡ Ok (6 + get_or ws 5 0)
       unfolding judged_as
-      said_follows d = said_judged ∙ rw (some_words, d)
+      said_follows d = said_judged ∙ rw d
 
-  pub said_ended : {end : Bool} → end ≡ both audit ended → end ≡ true → tried.Ends ≡ said
-  said_ended is e = sym (said_ends (sym is ∙ e))
+  pub said_ended : {end : Bool} {told : Told} → end ≡ both walk.audit ended → end ≡ true → told ≡ told_now → Err (Ends told) ≡ said
+  said_ended is e same = ap (λ (x : Told). Err (Ends x)) same ∙ sym (said_ends (sym is ∙ e))
 
   -- a record that follows has passed all of them
   pub record SaidFollows (count : ℕ) : Type 0 where
-    pub more : both audit ended ≡ false
+    pub more : both walk.audit ended ≡ false
     pub follows : passes ≡ true
     pub cheap : ltb least (named_cost ws) ≡ false
     pub count-is : count ≡ 6 + get_or ws 5 0
 
-  pub said_so : {count : ℕ} → said ≡ Follows count → SaidFollows count
+  pub said_so : {count : ℕ} → said ≡ Ok count → SaidFollows count
   said_so {count} e =
-      by_test (both audit ended)
-      (λ q. absurd (true≢false (ap is_follows (sym e ∙ said_ends q))))
+      by_test (both walk.audit ended)
+      (λ q. absurd (not_both (said_ends q) e))
       (λ q.
       by_test passes
       (λ y.
       by_test (ltb least (named_cost ws))
-      (λ d. absurd (true≢false (ap is_follows (sym e ∙ said_dear q y d))))
+      (λ d. absurd (not_both (said_dear q y d) e))
       (λ d. record { more = q; follows = y; cheap = d; count-is = ap words_in (sym e ∙ said_follows q y d) }))
-      (λ n. absurd (true≢false (ap is_follows (sym e ∙ said_strays q n)))))
-
--- ---- a net
-
-module _ (x : Tried) (t : Tariff) (over : ℕ) where
-  pub stopped_strays : x ≡ Strays → Off t.words ≡ stopped_at x t over
-  stopped_strays e = rw e
-
-  pub stopped-follows : {count : ℕ} → x ≡ Follows count → On t ≡ stopped_at x t over
-  stopped-follows e = rw e
-
-  module _ {told : Told} (is : told ≡ told_of t (t.iteration - 1) over) where
-    pub stopped-ends : x ≡ tried.Ends → Ends told ≡ stopped_at x t over
-    stopped-ends e = rw e (ap Ends is)
-
-    pub stopped_dear : {cost least : ℕ} → x ≡ tried.NotCheapest cost least → NotCheapest told cost least ≡ stopped_at x t over
-    stopped_dear {cost} {least} e = rw e (ap (λ (k : Told). NotCheapest k cost least) is)
+      (λ n. absurd (not_both (said_strays q n) e)))
 
 -- ---- an iteration
 
-abbrev is_on : Taken → Bool
-is_on (On t) = true
-is_on (Off w) = false
-is_on (Ends told) = false
-is_on (NotCheapest told cost least) = false
+abbrev is_on : Result Tariff Stopped → Bool
+is_on (Ok t) = true
+is_on (Err e) = false
 
-abbrev tariff_in : Tariff → Taken → Tariff
-tariff_in d (On t) = t
-tariff_in d (Off w) = d
-tariff_in d (Ends told) = d
-tariff_in d (NotCheapest told cost least) = d
+abbrev tariff_in : Tariff → Result Tariff Stopped → Tariff
+tariff_in d (Ok t) = t
+tariff_in d (Err e) = d
 
 module _ (audit : Bool) (t : Tariff) (over limit len : ℕ) {end : Bool} (is : end ≡ both audit (leb len t.words)) where
-  pub whole_ends : {told : Told} → end ≡ true → told ≡ told_of t t.iteration over → Ends told ≡ whole_as audit t over limit len
+  pub whole_ends : {told : Told} → end ≡ true → told ≡ told_of t t.iteration over → Err (Ends told) ≡ whole_as audit t over limit len
   unfolding whole_as
-  whole_ends e same = rw (← is, e) (ap Ends same)
+  whole_ends e same = rw (← is, e) (ap (λ (x : Told). Err (Ends x)) same)
 
   module _ (e : end ≡ false) where
-    pub whole_settled : over ≡ 0 → Off t.words ≡ whole_as audit t over limit len
+    pub whole_settled : over ≡ 0 → Err (Off t.words) ≡ whole_as audit t over limit len
     unfolding whole_as
     whole_settled z = rw (← is, e, eq-eqb over 0 z)
 
     module _ (some : over ≡ 0 → ⊥) where
-      pub whole_last : t.iteration ≡ limit → Off t.words ≡ whole_as audit t over limit len
+      pub whole_last : t.iteration ≡ limit → Err (Off t.words) ≡ whole_as audit t over limit len
       unfolding whole_as
       whole_last l = rw (← is, e, ne_eqb over 0 some, eq-eqb t.iteration limit l)
 
-      pub whole_on : (t.iteration ≡ limit → ⊥) → On t ≡ whole_as audit t over limit len
+      pub whole_on : (t.iteration ≡ limit → ⊥) → Ok t ≡ whole_as audit t over limit len
       unfolding whole_as
       whole_on l = rw (← is, e, ne_eqb over 0 some, ne_eqb t.iteration limit l)
 
 -- what is answered, by the same tests
 module _ (audit : Bool) (t : Tariff) (over limit len : ℕ) where
-  pub whole_said_ends : both audit (leb len t.words) ≡ true → whole_as audit t over limit len ≡ Ends (told_of t t.iteration over)
+  pub whole_said_ends : both audit (leb len t.words) ≡ true → whole_as audit t over limit len ≡ Err (Ends (told_of t t.iteration over))
   unfolding whole_as
   whole_said_ends e = rw e
 
   module _ (e : both audit (leb len t.words) ≡ false) where
-    pub whole_said_off : either (eqb over 0) (eqb t.iteration limit) ≡ true → whole_as audit t over limit len ≡ Off t.words
+    pub whole_said_off : either (eqb over 0) (eqb t.iteration limit) ≡ true → whole_as audit t over limit len ≡ Err (Off t.words)
     unfolding whole_as
     whole_said_off s = rw (e, s)
 
-    pub whole_said_on : either (eqb over 0) (eqb t.iteration limit) ≡ false → whole_as audit t over limit len ≡ On t
+    pub whole_said_on : either (eqb over 0) (eqb t.iteration limit) ≡ false → whole_as audit t over limit len ≡ Ok t
     unfolding whole_as
     whole_said_on s = rw (e, s)
 
@@ -183,7 +176,7 @@ module _ (audit : Bool) (t : Tariff) (over limit len : ℕ) where
     pub unsettled : either (eqb over 0) (eqb t.iteration limit) ≡ false
     pub same : t' ≡ t
 
-  pub whole_said_so : {t' : Tariff} → On t' ≡ whole_as audit t over limit len → WholeOn t'
+  pub whole_said_so : {t' : Tariff} → Ok t' ≡ whole_as audit t over limit len → WholeOn t'
   whole_said_so {t'} is =
       by_test (both audit (leb len t.words))
       (λ e. absurd (true≢false (ap is_on (is ∙ whole_said_ends e))))

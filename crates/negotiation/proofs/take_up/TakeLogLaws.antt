@@ -33,8 +33,9 @@ use Rattle.negotiation.specs.Kept.{CanGoOn, Ready}
 use Rattle.negotiation.specs.Resume.{Replay, on, off, ends, not_cheapest, if_on, at_end, since_start, moved_on, replay_nets, replay_next, replay_from}
 use Rattle.negotiation.specs.TakeSteps.{told_of, whole_as, ToldAt, NetsOpen, NetsOn, NetsEnd, NetsTaken, LogOn, LogEnds, LogTaken}
 use Rattle.negotiation.specs.declared.tariff.Tariff.{Tariff}
-use Rattle.negotiation.specs.declared.take_up.Taken.{Taken}
-use Rattle.negotiation.specs.declared.take_up.Taken.TheVariants.{On, Off, Ends, NotCheapest}
+use Rattle.std.specs.Prelude.{Option, Some, None, Result, Ok, Err}
+use Rattle.negotiation.specs.declared.take_up.Stopped.{Stopped}
+use Rattle.negotiation.specs.declared.take_up.Stopped.TheVariants.{Off, Ends, NotCheapest}
 use Rattle.negotiation.specs.declared.take_up.Told.{Told}
 use Rattle.negotiation.specs.declared.take_up.Walk.{Walk}
 use Rattle.negotiation.proofs.ReplayLaws.{either_no}
@@ -43,6 +44,7 @@ use Rattle.negotiation.proofs.NetLaws.{grown-on}
 use Rattle.negotiation.proofs.KeepProgress.{users-long, marks_long, due-ready, due-marked, over_used, over-is, grow, kept-moved}
 use Rattle.negotiation.proofs.take_up.JudgedLaws.{whole_said_ends, whole_said_off, whole_said_on, WholeOn, whole_said_so}
 use Rattle.negotiation.proofs.take_up.TakeTurnLaws.{can-ready}
+use Rattle.negotiation.proofs.take_up.TakeNetLaws.{on_err}
 
 -- ---- the iterations so far
 
@@ -99,9 +101,14 @@ take_on {audit} j {log = log} a e =
 -- ---- what the nets come to, by cases
 
 pub nets-on :
-    (walk : Walk) (j : Job) (p : Progress) (history users marks from to log : List ℕ) {r : Taken} {t : Tariff} → NetsTaken walk r j p history users marks from to log
-    → r ≡ On t → NetsOn walk.audit j p (nets j) t history users marks from to log
-nets-on walk j p history users marks from to log n e = subst (λ (x : Taken). NetsTaken walk x j p history users marks from to log) e n
+    (walk : Walk) (j : Job) (p : Progress) (history users marks from to log : List ℕ) {r : Result Tariff Stopped} {t : Tariff} → NetsTaken walk r j p history users marks from to log
+    → r ≡ Ok t → NetsOn walk.audit j p (nets j) t history users marks from to log
+nets-on walk j p history users marks from to log n e = subst (λ (x : Result Tariff Stopped). NetsTaken walk x j p history users marks from to log) e n
+
+pub nets-err :
+    (walk : Walk) (j : Job) (p : Progress) (history users marks from to log : List ℕ) {r : Result Tariff Stopped} {e : Stopped} → NetsTaken walk r j p history users marks from to log
+    → r ≡ Err e → NetsTaken walk (Err e) j p history users marks from to log
+nets-err walk j p history users marks from to log n e = subst (λ (x : Result Tariff Stopped). NetsTaken walk x j p history users marks from to log) e n
 
 -- one is left behind an iteration that is not the limit's
 pub next-below :
@@ -181,12 +188,11 @@ module _ (j : Job) (sound : Routable j) {audit more : Bool} {over : ℕ} {t : Ta
         }
 
     pub take-stopped :
-        (users' marks' from' to' : List ℕ) (r : Taken) → ((t'' : Tariff) → r ≡ On t'' → ⊥) → NetsTaken walk r j here history users' marks' from' to' log
-        → (history'' users'' marks'' from'' to'' dues'' : List ℕ) → LogTaken audit r j history'' users'' marks'' from'' to'' dues'' log
-    take-stopped users' marks' from' to' (On t'') other n history'' users'' marks'' from'' to'' dues'' = absurd (other t'' refl)
-    take-stopped users' marks' from' to' (Off w) other n history'' users'' marks'' from'' to'' dues'' = one_more ∙ from_step audit j log (a.left - 1) here (off w) n
-    take-stopped users' marks' from' to' (Ends told) other n history'' users'' marks'' from'' to'' dues'' = ended_so told ends (λ q s next. refl) n
-    take-stopped users' marks' from' to' (NotCheapest told cost least) other n history'' users'' marks'' from'' to'' dues'' =
+        (users' marks' from' to' : List ℕ) (e : Stopped) → NetsTaken walk (Err e) j here history users' marks' from' to' log
+        → (history'' users'' marks'' from'' to'' dues'' : List ℕ) → LogTaken audit (Err e) j history'' users'' marks'' from'' to'' dues'' log
+    take-stopped users' marks' from' to' (Off w) n history'' users'' marks'' from'' to'' dues'' = one_more ∙ from_step audit j log (a.left - 1) here (off w) n
+    take-stopped users' marks' from' to' (Ends told) n history'' users'' marks'' from'' to'' dues'' = ended_so told ends (λ q s next. refl) n
+    take-stopped users' marks' from' to' (NotCheapest told cost least) n history'' users'' marks'' from'' to'' dues'' =
         ended_so told (λ q. not_cheapest q cost least) (λ q s next. refl) n
 
     -- or all nets follow
@@ -256,19 +262,19 @@ module _ (j : Job) (sound : Routable j) {audit more : Bool} {over : ℕ} {t : Ta
 
         -- what is answered then
         pub take_whole :
-            (r : Taken) → r ≡ whole_as audit t' over' j.terms.limit (length log) → ((t'' : Tariff) → r ≡ On t'' → ⊥)
-            → (history'' users'' marks'' from'' to'' dues'' : List ℕ) → LogTaken audit r j history'' users'' marks'' from'' to'' dues'' log
-        take_whole r is other history'' users'' marks'' from'' to'' dues'' =
+            (e : Stopped) → Err e ≡ whole_as audit t' over' j.terms.limit (length log)
+            → (history'' users'' marks'' from'' to'' dues'' : List ℕ) → LogTaken audit (Err e) j history'' users'' marks'' from'' to'' dues'' log
+        take_whole r is history'' users'' marks'' from'' to'' dues'' =
             by_test (both audit (leb (length log) t'.words))
-            (λ e. taken_as (Ends (told_of t' t'.iteration over')) (whole_said_ends audit t' over' j.terms.limit (length log) e) (ends_whole e))
+            (λ e. taken_as (Err (Ends (told_of t' t'.iteration over'))) (whole_said_ends audit t' over' j.terms.limit (length log) e) (ends_whole e))
             (λ e.
             by_test stop
-            (λ s. taken_as (Off t'.words) (whole_said_off audit t' over' j.terms.limit (length log) e s) (stops e s))
-            (λ s. absurd (other t' (is ∙ whole_said_on audit t' over' j.terms.limit (length log) e s))))
+            (λ s. taken_as (Err (Off t'.words)) (whole_said_off audit t' over' j.terms.limit (length log) e s) (stops e s))
+            (λ s. absurd (on_err (sym (is ∙ whole_said_on audit t' over' j.terms.limit (length log) e s)))))
           where
-            taken_as : (x : Taken) → whole_as audit t' over' j.terms.limit (length log) ≡ x → LogTaken audit x j history'' users'' marks'' from'' to'' dues'' log
-                → LogTaken audit r j history'' users'' marks'' from'' to'' dues'' log
-            taken_as x e l = subst (λ (y : Taken). LogTaken audit y j history'' users'' marks'' from'' to'' dues'' log) (sym (is ∙ e)) l
+            taken_as : (x : Result Tariff Stopped) → whole_as audit t' over' j.terms.limit (length log) ≡ x → LogTaken audit x j history'' users'' marks'' from'' to'' dues'' log
+                → LogTaken audit (Err r) j history'' users'' marks'' from'' to'' dues'' log
+            taken_as x e l = subst (λ (y : Result Tariff Stopped). LogTaken audit y j history'' users'' marks'' from'' to'' dues'' log) (sym (is ∙ e)) l
 
       -- in the same iteration, so that the next one lowers the measure
       pub same-iteration : t'.iteration ≡ t.iteration
@@ -276,7 +282,7 @@ module _ (j : Job) (sound : Routable j) {audit more : Bool} {over : ℕ} {t : Ta
 
       -- or the run can go on
       module _ (over' : ℕ) (counts : over' ≡ over_used j users') {t'' : Tariff}
-          (goes : On t'' ≡ whole_as audit t' over' j.terms.limit (length log)) where
+          (goes : Ok t'' ≡ whole_as audit t' over' j.terms.limit (length log)) where
         said : WholeOn audit t' over' j.terms.limit (length log) t''
         said = whole_said_so audit t' over' j.terms.limit (length log) goes
 

@@ -16,7 +16,7 @@ use native.Mathlib.Numerals.{add-one}
 use native.Mathlib.Omega.{arith}
 use lib.ListN.{length, get_or}
 use Rattle.price.specs.Test.{choose}
-use Rattle.price.proofs.TestLaws.{by_test, either_way}
+use Rattle.price.proofs.TestLaws.{by_test, true≢false, either_way}
 use Rattle.job.specs.Job.{Job, job_of, nodes, nets, net_sinks}
 use Rattle.negotiation.specs.Routable.{Routable}
 use Rattle.negotiation.specs.Records.{Record, path_nodes}
@@ -26,8 +26,9 @@ use Rattle.negotiation.specs.Resume.{Replay, on, off, ends, not_cheapest, if_on,
 use Rattle.negotiation.specs.TakeSteps.{NetTables, NetOpens, NetOn, ToldAt, NetEnds, NetTaken, NetsOpen, NetsOn, NetsEnd, NetsTaken}
 use Rattle.job.specs.declared.Terms.{Terms}
 use Rattle.negotiation.specs.declared.tariff.Tariff.{Tariff}
-use Rattle.negotiation.specs.declared.take_up.Taken.{Taken}
-use Rattle.negotiation.specs.declared.take_up.Taken.TheVariants.{On, Off, Ends, NotCheapest}
+use Rattle.std.specs.Prelude.{Option, Some, None, Result, Ok, Err}
+use Rattle.negotiation.specs.declared.take_up.Stopped.{Stopped}
+use Rattle.negotiation.specs.declared.take_up.Stopped.TheVariants.{Off, Ends, NotCheapest}
 use Rattle.negotiation.specs.declared.take_up.Told.{Told}
 use Rattle.negotiation.specs.declared.take_up.Walk.{Walk}
 use Rattle.negotiation.proofs.DueLaws.{due_some}
@@ -37,14 +38,19 @@ use Rattle.negotiation.proofs.KeepStart.{sinks-count}
 
 -- ---- answers by cases
 
-abbrev tariff_in : Tariff → Taken → Tariff
-tariff_in d (On t) = t
-tariff_in d (Off w) = d
-tariff_in d (Ends told) = d
-tariff_in d (NotCheapest told cost least) = d
+abbrev tariff_in : Tariff → Result Tariff Stopped → Tariff
+tariff_in d (Ok t) = t
+tariff_in d (Err e) = d
 
-pub on_same : {t t' : Tariff} → On t ≡ On t' → t ≡ t'
+abbrev is_on : Result Tariff Stopped → Bool
+is_on (Ok t) = true
+is_on (Err e) = false
+
+pub on_same : {t t' : Tariff} → ◌≡◌ {A = Result Tariff Stopped} (Ok t) (Ok t') → t ≡ t'
 on_same {t} e = ap (tariff_in t) e
+
+pub on_err : {t : Tariff} {e : Stopped} → ◌≡◌ {A = Result Tariff Stopped} (Ok t) (Err e) → ⊥
+on_err q = true≢false (ap is_on q)
 
 -- ---- the tables of a net
 
@@ -155,15 +161,15 @@ module _ (j : Job) (sound : Routable j) {audit : Bool} {p : Progress} {i : ℕ} 
       net_asks some = net_opens (is-due some)
 
       -- what they come to, in a walk that tells of so many nodes over capacity
-      module _ (over : ℕ) {r : Taken} {marks'' : List ℕ} (none : turns ≡ 0 → (r ≡ On t) × (marks'' ≡ marks'))
+      module _ (over : ℕ) {r : Result Tariff Stopped} {marks'' : List ℕ} (none : turns ≡ 0 → (r ≡ Ok t) × (marks'' ≡ marks'))
           (answer :
           NetOpens j here i delays criticalities timed low high turns t history users' marks' log
           → NetTaken (record { audit = audit; over = over }) r j here i marks'' log) where
         abbrev walk : Walk
         walk = record { audit = audit; over = over }
 
-        case : due j p.state i ≡ true → (x : Taken) → r ≡ x → NetTaken walk x j here i marks'' log
-        case d x e = subst (λ (y : Taken). NetTaken walk y j here i marks'' log) e (answer (net_opens d))
+        case : due j p.state i ≡ true → (x : Result Tariff Stopped) → r ≡ x → NetTaken walk x j here i marks'' log
+        case d x e = subst (λ (y : Result Tariff Stopped). NetTaken walk y j here i marks'' log) e (answer (net_opens d))
 
         idle_is : due j p.state i ≡ false → (turns ≡ 0) × (users' ≡ users) × (marks' ≡ marks)
         idle_is d = let e = without (unmarked d) in (e.none_left, e.users-same, e.marks_same)
@@ -185,24 +191,23 @@ module _ (j : Job) (sound : Routable j) {audit : Bool} {p : Progress} {i : ℕ} 
               }
 
           stopped :
-              (x : Taken) → ((t'' : Tariff) → x ≡ On t'' → ⊥) → NetTaken walk x j here i marks'' log
-              → (history' users'' marks''' from' to' : List ℕ) → NetsTaken walk x j p history' users'' marks''' from' to' log
-          stopped (On t'') other n history' users'' marks''' from' to' = absurd (other t'' refl)
-          stopped (Off w) other n history' users'' marks''' from' to' = all-nets (off w) (λ next. refl) n
-          stopped (Ends told) other n history' users'' marks''' from' to' = ended told ends (λ q next. refl) n
-          stopped (NotCheapest told cost least) other n history' users'' marks''' from' to' = ended told (λ q. not_cheapest q cost least) (λ q next. refl) n
+              (x : Stopped) → NetTaken walk (Err x) j here i marks'' log
+              → (history' users'' marks''' from' to' : List ℕ) → NetsTaken walk (Err x) j p history' users'' marks''' from' to' log
+          stopped (Off w) n history' users'' marks''' from' to' = all-nets (off w) (λ next. refl) n
+          stopped (Ends told) n history' users'' marks''' from' to' = ended told ends (λ q next. refl) n
+          stopped (NotCheapest told cost least) n history' users'' marks''' from' to' = ended told (λ q. not_cheapest q cost least) (λ q next. refl) n
 
         pub nets-stopped :
-            ((t'' : Tariff) → r ≡ On t'' → ⊥) → (history' users'' marks''' from' to' : List ℕ) → NetsTaken walk r j p history' users'' marks''' from' to' log
-        nets-stopped other history' users'' marks''' from' to' =
+            {e : Stopped} → r ≡ Err e → (history' users'' marks''' from' to' : List ℕ) → NetsTaken walk (Err e) j p history' users'' marks''' from' to' log
+        nets-stopped {e} is history' users'' marks''' from' to' =
             by_test (due j p.state i)
-            (λ d. stopped d r other (answer (net_opens d)) history' users'' marks''' from' to')
-            (λ d. absurd (other t (none (idle_is d).0).0))
+            (λ d. stopped d e (case d (Err e) is) history' users'' marks''' from' to')
+            (λ d. absurd (on_err (sym (none (idle_is d).0).0 ∙ is)))
 
         -- or follow
-        module _ {t' : Tariff} (is-on : r ≡ On t') where
+        module _ {t' : Tariff} (is-on : r ≡ Ok t') where
           made : due j p.state i ≡ true → NetOn audit j here i t' marks'' log
-          made d = case d (On t') is-on
+          made d = case d (Ok t') is-on
 
           grown : (d : due j p.state i ≡ true) → Opened j here i (made d).made history users' marks'' from to
           grown d =

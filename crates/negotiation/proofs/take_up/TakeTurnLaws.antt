@@ -43,12 +43,10 @@ use Rattle.negotiation.specs.TariffSteps.{logged_tariff}
 use Rattle.negotiation.specs.Kept.{Tallied, CanGoOn}
 use Rattle.negotiation.specs.Resume.{record_path, record_in, whole_record, cost_follows, turn_price, turn_follows, all_joined, least_cost, on, off, ends, not_cheapest, gone_to, after, at_end, replay_turns}
 use Rattle.negotiation.specs.ResumeSteps.{named_cost, turn_passes}
-use Rattle.negotiation.specs.TakeSteps.{TakenTo, told_of, stopped_at, tried_as, goals_of, TryReady, tried_passes, tried_least, NetOpens, NetOn, ToldAt, NetTaken}
+use Rattle.negotiation.specs.TakeSteps.{TakenTo, told_of, tried_as, goals_of, TryReady, tried_passes, tried_least, NetOpens, NetOn, ToldAt, NetTaken}
 use Rattle.negotiation.specs.declared.tariff.Tariff.{Tariff}
-use Rattle.negotiation.specs.declared.take_up.Taken.{Taken}
-use Rattle.negotiation.specs.declared.take_up.Tried.{Tried}
-use Rattle.negotiation.specs.declared.take_up.Tried.TheVariants as tried
-use Rattle.negotiation.specs.declared.take_up.Tried.TheVariants.{Strays, Follows as Follows'}
+use Rattle.std.specs.Prelude.{Option, Some, None, Result, Ok, Err}
+use Rattle.negotiation.specs.declared.take_up.Stopped.{Stopped}
 use Rattle.negotiation.specs.declared.take_up.Walk.{Walk}
 use Rattle.negotiation.proofs.MemberLaws.{every-has, every_members, no_entry}
 use Rattle.negotiation.proofs.OrderLaws.{turn-nodes}
@@ -60,7 +58,7 @@ use Rattle.negotiation.proofs.ReplayLaws.{Begins, begins-more, source_more, join
 use Rattle.negotiation.proofs.take_up.StepPassLaws.{Marks, mark_out}
 use Rattle.negotiation.proofs.take_up.PathPassLaws.{path_nodes_lem, turn_pass}
 use Rattle.negotiation.proofs.take_up.TriedLaws.{sinks-here, tried-is, price-is, least-is, try_ready}
-use Rattle.negotiation.proofs.take_up.JudgedLaws.{said_ends, said_strays, said_dear, said_follows, SaidFollows, said_so}
+use Rattle.negotiation.proofs.take_up.JudgedLaws.{stopped_same, not_both, said_ends, said_strays, said_dear, said_follows, SaidFollows, said_so}
 use Rattle.negotiation.proofs.TurnStepLaws.{mark_at, encode-more, below-append}
 use Rattle.negotiation.proofs.KeepProgress.{marks_length, marks_grow}
 
@@ -446,7 +444,11 @@ module _ (j : Job) {p : Progress} {i : ℕ} {delays criticalities : List ℕ} {t
               }
 
       -- as the call answers
-      module _ (small : (k : ℕ) → get_or log k 0 < 2 ^ 32) {said : Tried} (answer : said ≡ tried_as audit ended passes (drop t.words log) least) where
+      module _ (small : (k : ℕ) → get_or log k 0 < 2 ^ 32) (over : ℕ) {said : Result ℕ Stopped}
+          (answer : said ≡ tried_as t (record { audit = audit; over = over }) ended passes (drop t.words log) least) where
+        abbrev walk : Walk
+        walk = record { audit = audit; over = over }
+
         abbrev ws : List ℕ
         ws = drop t.words log
 
@@ -457,39 +459,33 @@ module _ (j : Job) {p : Progress} {i : ℕ} {delays criticalities : List ℕ} {t
             omega arith
 
         -- it ends the net
-        module _ (over : ℕ) where
-          abbrev walk : Walk
-          walk = record { audit = audit; over = over }
+        module _ {stopped : Stopped} (is : said ≡ Err stopped) (marks' : List ℕ) where
+          taken_as : {x : Stopped} → tried_as t walk ended passes ws least ≡ Err x → NetTaken walk (Err x) j p i marks' log → NetTaken walk (Err stopped) j p i marks' log
+          taken_as {x} e n = subst (λ (y : Stopped). NetTaken walk (Err y) j p i marks' log) (stopped_same (sym e ∙ sym answer ∙ is)) n
 
-          taken_as : (marks' : List ℕ) (x : Tried) → tried_as audit ended passes ws least ≡ x → NetTaken walk (stopped_at x t over) j p i marks' log → NetTaken walk (stopped_at said t over) j p i marks' log
-          taken_as marks' x e n = subst (λ (y : Tried). NetTaken walk (stopped_at y t over) j p i marks' log) (sym (answer ∙ e)) n
-
-          stopped_so : (marks' : List ℕ) → ((k : ℕ) → said ≡ Follows' k → ⊥) → NetTaken walk (stopped_at said t over) j p i marks' log
-          stopped_so marks' other =
+          pub follow_stopped : NetTaken walk (Err stopped) j p i marks' log
+          follow_stopped =
               by_test (both audit ended)
-              (λ e. taken_as marks' tried.Ends (said_ends _ _ _ _ _ e) (record { made = f.made; is = ends-here e; told_at = told_here over }))
+              (λ e. taken_as (said_ends _ _ _ _ _ _ e) (record { made = f.made; is = ends-here e; told_at = told_here over }))
               (λ e.
               by_test passes
               (λ y.
               let yes : turn_follows j p.state i tree there ≡ true = sym passes_is ∙ y in
               by_test (ltb least (named_cost ws))
               (λ d.
-              taken_as marks' (tried.NotCheapest (named_cost ws) least) (said_dear _ _ _ _ _ e y d)
+              taken_as (said_dear _ _ _ _ _ _ e y d)
               (record {
                 made = f.made;
                 is = dear e yes (sym (test_same audit _ least_so (named_is e yes) named_low) ∙ d) (named_is e yes) (least_dear audit _ least_so named_low d);
                 told_at = told_here over;
               }))
-              (λ d. absurd (other _ (answer ∙ said_follows _ _ _ _ _ e y d))))
-              (λ n. taken_as marks' Strays (said_strays _ _ _ _ _ e n) (strays e (sym passes_is ∙ n))))
-
-          pub follow_stopped : (marks' : List ℕ) → ((k : ℕ) → said ≡ Follows' k → ⊥) → (x : Taken) → x ≡ stopped_at said t over → NetTaken walk x j p i marks' log
-          follow_stopped marks' other x e = subst (λ (y : Taken). NetTaken walk y j p i marks' log) (sym e) (stopped_so marks' other)
+              (λ d. absurd (not_both is (answer ∙ said_follows _ _ _ _ _ _ e y d))))
+              (λ n. taken_as (said_strays _ _ _ _ _ _ e n) (strays e (sym passes_is ∙ n))))
 
         -- or is one turn more
-        module _ {count : ℕ} (is-turn : said ≡ Follows' count) where
-          passed : SaidFollows audit ended passes ws least count
-          passed = said_so _ _ _ _ _ (sym answer ∙ is-turn)
+        module _ {count : ℕ} (is-turn : said ≡ Ok count) where
+          passed : SaidFollows t walk ended passes ws least count
+          passed = said_so _ _ _ _ _ _ (sym answer ∙ is-turn)
 
           following : turn_follows j p.state i tree there ≡ true
           following = sym passes_is ∙ passed.follows

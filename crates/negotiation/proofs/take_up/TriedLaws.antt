@@ -14,6 +14,7 @@ use native.Mathlib.Omega.{arith}
 use lib.Dec.{leb}
 use lib.ListN.{length, get_or, take, drop, replicate, length-append, length-replicate, length-drop, get_or-replicate}
 use lib.Seq.{slice, length-slice, ext_get_or, take-append_seam}
+use Rattle.std.specs.Prelude.{Option, Some, None, Result}
 use Rattle.price.specs.Bounds.{nodes_most}
 use Rattle.price.specs.Test.{choose, both}
 use Rattle.price.specs.Lists.{has, up_to}
@@ -37,7 +38,8 @@ use Rattle.negotiation.specs.ResumeSteps.{RecordReady, named_cost, frame_follows
 use Rattle.negotiation.specs.Steps.{TurnReady}
 use Rattle.negotiation.specs.TakeSteps.{judged_as, tried_as, tried_here, congestion_here, goals_of, TryReady, tried_passes, tried_least, NetTables}
 use Rattle.negotiation.specs.declared.order.Tried.{Tried}
-use Rattle.negotiation.specs.declared.take_up.Tried.{Tried as Said}
+use Rattle.negotiation.specs.declared.take_up.Stopped.{Stopped}
+use Rattle.negotiation.specs.declared.take_up.Walk.{Walk}
 use Rattle.negotiation.specs.declared.tariff.Tariff.{Tariff}
 use Rattle.negotiation.proofs.FollowLaws.{whole_long}
 use Rattle.negotiation.proofs.FrameLaws.{Frame, frame_of}
@@ -147,11 +149,11 @@ module _ {b : Block} {sinks delays criticalities : List ℕ} {timed : Bool} {fro
     -- as the call answers
     module _
         (net : ℕ)
-        {count : ℕ}
+        {count : Option ℕ}
         (answer :
         count
         ≡ choose (turn_passes b (price_at b (weighed_congestion next.weighting delays t.factor history users)) goals marks t.iteration net (drop t.words log))
-        (6 + get_or (drop t.words log) 5 0) 0)
+        (Some (6 + get_or (drop t.words log) 5 0)) None)
       where
         abbrev ws : List ℕ
         ws = drop t.words log
@@ -159,11 +161,11 @@ module _ {b : Block} {sinks delays criticalities : List ℕ} {timed : Bool} {fro
         abbrev passes : Bool
         passes = tried_passes b sinks delays criticalities timed from to t net history users marks ws
 
-        count-is : count ≡ choose passes (6 + get_or ws 5 0) 0
+        count-is : count ≡ choose passes (Some (6 + get_or ws 5 0)) None
         count-is = rw (goals-on, found.weighting-is) at answer
 
         -- a record that follows has its cost's words
-        pub judge_asks : (count ≡ 0 → ⊥) → t.words + 6 ≤ length log
+        pub judge_asks : (count ≡ None → ⊥) → t.words + 6 ≤ length log
         unfolding turn_passes
         judge_asks some =
             by_test passes
@@ -176,12 +178,12 @@ module _ {b : Block} {sinks delays criticalities : List ℕ} {timed : Bool} {fro
             (λ n. absurd (some (count-is ∙ rw n)))
 
         pub tried_said :
-            (audit : Bool) {end : Bool} {least : ℕ} {r : Said} → end ≡ both audit (leb (length log) t.words) → end ≡ false
-            → least ≡ tried_least b sinks delays criticalities timed from to t audit history users marks → r ≡ judged_as count (named_cost ws) least
+            (walk : Walk) {end : Bool} {least : ℕ} {r : Result ℕ Stopped} → end ≡ both walk.audit (leb (length log) t.words) → end ≡ false
+            → least ≡ tried_least b sinks delays criticalities timed from to t walk.audit history users marks → r ≡ judged_as t walk.over count (named_cost ws) least
             → r
-            ≡ tried_as audit (leb (length log) t.words) passes ws (tried_least b sinks delays criticalities timed from to t audit history users marks)
+            ≡ tried_as t walk (leb (length log) t.words) passes ws (tried_least b sinks delays criticalities timed from to t walk.audit history users marks)
         unfolding tried_as
-        tried_said audit ends on least-is is = rw (← ends, on, ← least-is, ← count-is) is
+        tried_said walk ends on least-is is = rw (← ends, on, ← least-is, ← count-is) is
 
 -- ---- the job's turn
 

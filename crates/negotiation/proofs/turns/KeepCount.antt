@@ -20,8 +20,9 @@ use Rattle.negotiation.specs.Runs.{Ran}
 use Rattle.negotiation.specs.Steps.{SameFrom, turn_count, Skipped, Overflows, TurnLogged, TurnDone}
 use Rattle.negotiation.specs.Kept.{Tallied, Ready}
 use Rattle.negotiation.specs.declared.tariff.Tariff.{Tariff}
-use Rattle.negotiation.specs.declared.turns.TurnMade.{TurnMade}
-use Rattle.negotiation.specs.declared.turns.TurnMade.TheVariants.{Nothing, Full, Logged}
+use Rattle.negotiation.specs.declared.turns.NoRoom.{NoRoom}
+use Rattle.std.specs.Prelude.{Option, Some, None, Result, Ok, Err}
+use Rattle.std.specs.Option.{unwrap_or}
 use Rattle.negotiation.specs.declared.RouteAnswer.{RouteAnswer}
 use Rattle.negotiation.proofs.RecordLaws.{decode-encode}
 use Rattle.negotiation.proofs.RanLaws.{ran-iteration}
@@ -125,25 +126,29 @@ module _ (j : Job) (sound : Routable j) (all : Reached j) {p : Progress} {work�
   pub counts_fit : {k : ℕ} {aimed : Bool} → Ran j k p.records p.state → Counts aimed j p.records t log → t.expanded + nodes j < 2 ^ 64
   counts_fit ran c = turn-fits j sound all enough (at_more j sound enough head some lent) lent ran c
 
-  module _ (work' log' marks' : List ℕ) (kept : SameFrom (8 * nodes j) work work') (made : TurnMade)
+  module _ (work' log' marks' : List ℕ) (kept : SameFrom (8 * nodes j) work work') (made : Result (Option Tariff) NoRoom)
       (done : TurnDone made (turn_by j i marks cs delays t history users) (count_by j i marks cs delays t history users) t i (tried_by j i marks cs) log marks log' marks') where
-    case : (r : TurnMade) → made ≡ r → TurnDone r (turn_by j i marks cs delays t history users) (count_by j i marks cs delays t history users) t i (tried_by j i marks cs) log marks log' marks'
+    case : (r : Result (Option Tariff) NoRoom) → made ≡ r → TurnDone r (turn_by j i marks cs delays t history users) (count_by j i marks cs delays t history users) t i (tried_by j i marks cs) log marks log' marks'
     case r e =
         subst
-        (λ (x : TurnMade). TurnDone x (turn_by j i marks cs delays t history users) (count_by j i marks cs delays t history users) t i (tried_by j i marks cs) log marks log' marks')
+        (λ (x : Result (Option Tariff) NoRoom). TurnDone x (turn_by j i marks cs delays t history users) (count_by j i marks cs delays t history users) t i (tried_by j i marks cs) log marks log' marks')
         e done
 
-    pub counts_nothing : made ≡ Nothing → (t'' : Tariff) → t'' ≡ t → CountsOn j p t log t'' log'
+    pub counts_nothing : made ≡ Ok None → (t'' : Tariff) → t'' ≡ t → CountsOn j p t log t'' log'
     counts_nothing e t'' q k aimed ran c =
-        let s : Skipped (turn_by j i marks cs delays t history users) log marks log' marks' = case Nothing e in
+        let s : Skipped (turn_by j i marks cs delays t history users) log marks log' marks' = case (Ok None) e in
         subst (λ (x : Tariff). Counts aimed j p.records x log') (sym q) (counts_same aimed j p.records t log t log' refl refl refl s.log-same c)
 
-    pub counts_full : made ≡ Full → CountsOn j p t log t log'
-    counts_full e k aimed ran c =
-        let o : Overflows (turn_by j i marks cs delays t history users) t log log' = case Full e in
+    pub counts_full : {full : NoRoom} → made ≡ Err full → CountsOn j p t log t log'
+    counts_full {full} e k aimed ran c =
+        let o : Overflows (turn_by j i marks cs delays t history users) t log log' = case (Err full) e in
         counts_same aimed j p.records t log t log' refl refl refl o.log-same c
 
-    pub counts-logged : (t' : Tariff) → made ≡ Logged t' → (t'' : Tariff) → t'' ≡ t' → CountsOn j p t log t'' log'
+    pub counts-logged : (t' : Tariff) → made ≡ Ok (Some t') → (t'' : Tariff) → t'' ≡ t' → CountsOn j p t log t'' log'
     counts-logged t' e t'' q k aimed ran c =
         subst (λ (x : Tariff). Counts aimed j p.records x log') (sym q)
-        (turn-counted j sound all enough (at_more j sound enough head some lent) lent ran c work' log' marks' kept t' (case (Logged t') e))
+        (turn-counted j sound all enough (at_more j sound enough head some lent) lent ran c work' log' marks' kept t' (case (Ok (Some t')) e))
+
+    pub counts_turn : (o : Option Tariff) → made ≡ Ok o → (t'' : Tariff) → t'' ≡ unwrap_or o t → CountsOn j p t log t'' log'
+    counts_turn None e t'' q = counts_nothing e t'' q
+    counts_turn (Some t') e t'' q = counts-logged t' e t'' q

@@ -21,8 +21,8 @@ use Rattle.negotiation.specs.Machine.{State, Progress, congestion_for, turn_of, 
 use Rattle.negotiation.specs.Outcome.{continued, iterations_left, made_from, route_reply_of, ran_reply, route_refusal, end_numbers}
 use Rattle.negotiation.specs.Steps.{SameFrom, Overflows, TurnDone}
 use Rattle.negotiation.specs.declared.tariff.Tariff.{Tariff}
-use Rattle.negotiation.specs.declared.turns.TurnMade.{TurnMade}
-use Rattle.negotiation.specs.declared.turns.TurnMade.TheVariants.{Full}
+use Rattle.negotiation.specs.declared.turns.NoRoom.{NoRoom}
+use Rattle.std.specs.Prelude.{Option, Some, None, Result, Ok, Err}
 use Rattle.negotiation.specs.declared.RouteAnswer.{RouteAnswer}
 use Rattle.negotiation.specs.declared.Outcome.TheVariants.{Accepted, LogFull, Limit}
 use Rattle.negotiation.proofs.StateLaws.{nets-iteration, nets-factor, state-iteration}
@@ -83,9 +83,9 @@ module _ (j : Job) {p : Progress} {work₀ log₀ : List ℕ} {m i left : ℕ} {
 pub after_full :
     (j : Job) (sound : Routable j) {p : Progress} {work₀ log₀ : List ℕ} (enough : 8 * nodes j ≤ length work₀) {m i left : ℕ} {t : Tariff}
     {history users marks from to dues work log : List ℕ} {first : ℕ} (head : AtTurns j p work₀ log₀ m i left t history users marks from to dues work log first)
-    (some : 0 < left) {delays cs : List ℕ} (lent : Lent j delays cs) (work' log' marks' : List ℕ) (kept : SameFrom (8 * nodes j) work work') (made : TurnMade)
+    (some : 0 < left) {delays cs : List ℕ} (lent : Lent j delays cs) (work' log' marks' : List ℕ) (kept : SameFrom (8 * nodes j) work work') (made : Result (Option Tariff) NoRoom)
     (done : TurnDone made (turn_by j i marks cs delays t history users) (count_by j i marks cs delays t history users) t i (tried_by j i marks cs) log marks log' marks')
-    → made ≡ Full → (w : List ℕ) → w ≡ replicate (8 * nodes j) 0 ++ drop (8 * nodes j) work' → (r : RouteAnswer) → r.outcome ≡ LogFull → Answers r t
+    → {full : NoRoom} → made ≡ Err full → (w : List ℕ) → w ≡ replicate (8 * nodes j) 0 ++ drop (8 * nodes j) work' → (r : RouteAnswer) → r.outcome ≡ LogFull → Answers r t
     → route_reply_of r w log' ≡ continued j p work₀ log₀
 after_full j sound {p} {work₀} {log₀} enough head some lent work' log' marks' kept made done e w q r o a =
     subst (λ (x : List ℕ). route_reply_of r x log' ≡ continued j p work₀ log₀) (sym q)

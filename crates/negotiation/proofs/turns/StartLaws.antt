@@ -22,11 +22,10 @@ use Rattle.negotiation.specs.TariffSteps.{going_on}
 use Rattle.negotiation.specs.TakeSteps.{LogTaken, StartOn, words_at, TurnedAway, Started}
 use Rattle.negotiation.specs.declared.RouteAnswer.{RouteAnswer}
 use Rattle.negotiation.specs.declared.Outcome.TheVariants.{Diverges}
-use Rattle.negotiation.specs.declared.Start.{Start}
-use Rattle.negotiation.specs.declared.Start.TheVariants.{Anew, After}
 use Rattle.negotiation.specs.declared.tariff.Tariff.{Tariff}
-use Rattle.negotiation.specs.declared.take_up.Taken.{Taken}
-use Rattle.negotiation.specs.declared.take_up.Taken.TheVariants.{On, Off, Ends, NotCheapest}
+use Rattle.std.specs.Prelude.{Option, Some, None, Result, Ok, Err}
+use Rattle.negotiation.specs.declared.take_up.Stopped.{Stopped}
+use Rattle.negotiation.specs.declared.take_up.Stopped.TheVariants.{Off, Ends, NotCheapest}
 use Rattle.negotiation.proofs.RecordLaws.{decode-encode}
 use Rattle.negotiation.proofs.ReplayLaws.{TakenUp, taken_up_lem, never_ends, never_finds}
 use Rattle.negotiation.proofs.TurnStepLaws.{tallied_so}
@@ -82,18 +81,18 @@ module _ (j : Job) {t : Tariff} {history users marks from to dues : List ℕ} wh
 
 -- ---- what a start comes to
 
-module _ (j : Job) (start : Start) (log : List ℕ) where
+module _ (j : Job) (start : Option ℕ) (log : List ℕ) where
   pub start_anew :
-      start ≡ Anew → {t : Tariff} {history users marks from to dues : List ℕ} → Ready j (first_progress j) t history users marks from to dues log
-      → Started (On t) start j history users marks from to dues log
+      start ≡ None → {t : Tariff} {history users marks from to dues : List ℕ} → Ready j (first_progress j) t history users marks from to dues log
+      → Started (Ok t) start j history users marks from to dues log
   unfolding Started
   start_anew e r = record { progress = first_progress j; is = λ work. rw e; ready = r; iterations = 0; ran = none-ran; lent_is = rw e }
 
-  module _ (used : ℕ) (e : start ≡ After used) where
+  module _ (used : ℕ) (e : start ≡ Some used) where
     after_so : (a : Replay) → replay j used log ≡ a → (work : List ℕ) → run_from start j work log ≡ resumed_reply j a work log
     after_so a q work = rw (e, q)
 
-    pub start-beyond : length log < used → (history users marks from to dues : List ℕ) → Started (Off (length log)) start j history users marks from to dues log
+    pub start-beyond : length log < used → (history users marks from to dues : List ℕ) → Started (Err (Off (length log))) start j history users marks from to dues log
     unfolding Started replay_by
     start-beyond l history users marks from to dues = after_so (off (length log)) (rw (lt-ltb (length log) used l))
 
@@ -103,10 +102,10 @@ module _ (j : Job) (start : Start) (log : List ℕ) where
       replay-is = rw (le-ltb (length log) used within)
 
       pub start-taken :
-          Routable j → (r : Taken) (history users marks from to dues : List ℕ) → LogTaken false r j history users marks from to dues (take used log)
+          Routable j → (r : Result Tariff Stopped) (history users marks from to dues : List ℕ) → LogTaken false r j history users marks from to dues (take used log)
           → Started r start j history users marks from to dues log
       unfolding Started
-      start-taken sound (On t) history users marks from to dues o =
+      start-taken sound (Ok t) history users marks from to dues o =
           let taken : TakenUp j used log o.progress = taken_up_lem j sound.source_no_sink used log o.progress (replay-is ∙ o.is) in
           record {
             progress = o.progress;
@@ -116,20 +115,20 @@ module _ (j : Job) (start : Start) (log : List ℕ) where
             ran = taken.ran;
             lent_is = rw e (sym (ap decode taken.words_are ∙ decode-encode o.progress.records));
           }
-      start-taken sound (Off word) history users marks from to dues q = after_so (off word) (replay-is ∙ q)
-      start-taken sound (Ends told) history users marks from to dues q = absurd (never_ends j used log q.progress (replay-is ∙ q.is))
-      start-taken sound (NotCheapest told cost least) history users marks from to dues q =
+      start-taken sound (Err (Off word)) history users marks from to dues q = after_so (off word) (replay-is ∙ q)
+      start-taken sound (Err (Ends told)) history users marks from to dues q = absurd (never_ends j used log q.progress (replay-is ∙ q.is))
+      start-taken sound (Err (NotCheapest told cost least)) history users marks from to dues q =
           absurd (never_finds j used log q.progress cost least (replay-is ∙ q.is))
 
 -- ---- the run from it
 
-module _ (j : Job) (start : Start) (log : List ℕ) {r : Taken} {history users marks from to dues : List ℕ} (s : Started r start j history users marks from to dues log) where
-  started_on : {t : Tariff} → r ≡ On t → StartOn start j t history users marks from to dues log
+module _ (j : Job) (start : Option ℕ) (log : List ℕ) {r : Result Tariff Stopped} {history users marks from to dues : List ℕ} (s : Started r start j history users marks from to dues log) where
+  started_on : {t : Tariff} → r ≡ Ok t → StartOn start j t history users marks from to dues log
   unfolding Started
-  started_on e = subst (λ (x : Taken). Started x start j history users marks from to dues log) e s
+  started_on e = subst (λ (x : Result Tariff Stopped). Started x start j history users marks from to dues log) e s
 
   -- by the search that is chosen
-  module _ {t t' : Tariff} (e : r ≡ On t) (aimed : Bool) (chosen : t' ≡ going_on t aimed) where
+  module _ {t t' : Tariff} (e : r ≡ Ok t) (aimed : Bool) (chosen : t' ≡ going_on t aimed) where
     ready_going : Ready j (started_on e).progress t' history users marks from to dues log
     ready_going =
         let at = (started_on e).ready in
@@ -168,19 +167,19 @@ module _ (j : Job) (start : Start) (log : List ℕ) {r : Taken} {history users m
         ∙ ap (λ (l : List Record). expanded_after aimed j l made) at.lent_is
 
 -- a log that is not taken up is turned away at its word,
-module _ (j : Job) (start : Start) (log history users marks from to dues : List ℕ) where
+module _ (j : Job) (start : Option ℕ) (log history users marks from to dues : List ℕ) where
   away_so :
-      (r : Taken) → Started r start j history users marks from to dues log → ((t : Tariff) → r ≡ On t → ⊥) → TurnedAway (words_at r) start j log
+      (e : Stopped) → Started (Err e) start j history users marks from to dues log → TurnedAway (words_at e) start j log
   unfolding Started
-  away_so (On t) s other = absurd (other t refl)
-  away_so (Off word) s other = s
-  away_so (Ends told) s other = s
-  away_so (NotCheapest told cost least) s other = s
+  away_so (Off word) s = s
+  away_so (Ends told) s = s
+  away_so (NotCheapest told cost least) s = s
 
   -- which leaves the work slice cleared
   pub turned_away_lem :
-      (r : Taken) → Started r start j history users marks from to dues log → ((t : Tariff) → r ≡ On t → ⊥) → (word : ℕ) → word ≡ words_at r
+      {r : Result Tariff Stopped} → Started r start j history users marks from to dues log → {e : Stopped} → r ≡ Err e → (word : ℕ) → word ≡ words_at e
       → (work w : List ℕ) → SameFrom (8 * nodes j) work w → (a : RouteAnswer) → a ≡ refused_answer (Diverges word)
       → (left : List ℕ) → left ≡ replicate (8 * nodes j) 0 ++ drop (8 * nodes j) w → route_reply_of a left log ≡ run_from start j work log
-  turned_away_lem r s other word e work w kept a q left is =
-      rw (q, e, is ∙ cleared-same (nodes j) work w kept) (sym (away_so r s other work))
+  turned_away_lem s {e} at word word-is work w kept a q left is =
+      rw (q, word-is, is ∙ cleared-same (nodes j) work w kept)
+      (sym (away_so e (subst (λ (x : Result Tariff Stopped). Started x start j history users marks from to dues log) at s) work))

@@ -6,6 +6,7 @@ use mathlib.Core.Path.{◌≡◌, sym, ◌∙◌, ap}
 use Prim.Native.Nat.{ℕ, ◌*◌, ◌^◌, ◌≤◌, ◌<◌}
 use native.Mathlib.Nat.{mul-le-mul}
 use native.Mathlib.Omega.{arith}
+use Rattle.std.specs.Prelude.{Ok, Err}
 use lib.ListN.{length, get_or, drop, replicate, length-append, length-drop, length-replicate, get_or-replicate, get_or-append}
 use borrow.Author.Tests.{lt-ltb, le-ltb}
 use Rattle.search.specs.Block.{block_of}
@@ -18,7 +19,7 @@ use Rattle.text.proofs.DecimalLaws.{decimal-length, three_size}
 use Rattle.text.proofs.PlacedLaws.{placed-start}
 use Rattle.text.proofs.JoiningLaws.{concat_alike, concat_size}
 use Rattle.uses.specs.Uses.{kind_count, logs_most, letter_u, capacity_of, use_counts_of, use_line, uses_text, print_reply_of}
-use Rattle.uses.specs.declared.PrintAnswer.TheVariants as p
+use Rattle.uses.specs.declared.PrintRefusal.TheVariants as p
 use Rattle.uses.specs.Steps.{tallied, total_line}
 use Rattle.uses.proofs.SumLaws.{kind_sum-most, kind_nodes_most}
 use Rattle.uses.proofs.TallyLaws.{tallied-at, tallied-long}
@@ -93,20 +94,20 @@ module _ {kinds capacities totals : List ℕ} (uses : List ℕ) (logs : ℕ) (t 
   abbrev asked : List ℕ
   asked = uses_text (block_of kinds capacities [] []) (use_counts_of uses logs)
 
-  pub printed-short : {trial after buffer : List ℕ} {needed : ℕ} → Put 0 text trial after needed → length buffer < needed → print_reply_of (p.ShortBuffer needed) buffer ≡ text_reply asked buffer
+  pub printed-short : {trial after buffer : List ℕ} {needed : ℕ} → Put 0 text trial after needed → length buffer < needed → print_reply_of (Err (p.ShortBuffer needed)) buffer ≡ text_reply asked buffer
   unfolding text_reply
   printed-short {buffer = buffer} {needed} put short =
       let size : needed ≡ length text = put.next-is ∙ omega arith in
       let small = lines_size uses totals logs in
       let fits : capped (length text) ≡ length text = omega arith in
       rw (← lines_are kinds capacities uses totals logs t, ← size, lt-ltb (length buffer) needed short)
-      (ap (λ (n : ℕ). print_reply_of (p.ShortBuffer n) buffer) (sym (rw (← size) at fits)))
+      (ap (λ (n : ℕ). print_reply_of (Err (p.ShortBuffer n)) buffer) (sym (rw (← size) at fits)))
 
   -- a buffer that is not too short has room
   pub text_fits : {trial after : List ℕ} {needed room : ℕ} → Put 0 text trial after needed → needed ≤ room → length text ≤ room
   text_fits {needed = needed} put l = omega (arith, put.next-is)
 
-  pub printed-all : {buffer after : List ℕ} {bytes : ℕ} → Put 0 text buffer after bytes → length text ≤ length buffer → print_reply_of (p.Written bytes) after ≡ text_reply asked buffer
+  pub printed-all : {buffer after : List ℕ} {bytes : ℕ} → Put 0 text buffer after bytes → length text ≤ length buffer → print_reply_of (Ok bytes) after ≡ text_reply asked buffer
   unfolding text_reply
   printed-all {buffer} {after} {bytes} put fits =
       let size : bytes ≡ length text = put.next-is ∙ omega arith in

@@ -2,5 +2,8 @@
 -- Assumes nothing.
 use Rattle.flow.proofs.refusals.write_refusal.Goals as goal
 
-pub returns : goal.returns
-returns c = c.print_line.ensures.answers
+pub returns-in-Some : goal.returns-in-Some
+returns-in-Some c = rw c.in-Some.is c.print_line.ensures.answers
+
+pub returns-in-None : goal.returns-in-None
+returns-in-None c = rw c.in-None.is c.print_line-in-None.ensures.answers

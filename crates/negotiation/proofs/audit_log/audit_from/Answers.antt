@@ -6,7 +6,8 @@ use native.Mathlib.Omega.{arith}
 use lib.ListN.{length}
 use lib.Seq.{length-take-le}
 use Rattle.search.proofs.BlockLaws.{kinds-few}
-use Rattle.job.specs.Job.{Job, job_of}
+use Rattle.job.specs.Job.{Job}
+use Rattle.job.specs.Lent.{job_in}
 use Rattle.negotiation.proofs.audit_log.AuditLogLaws.{beyond_audited, taken_audited}
 use Rattle.negotiation.proofs.audit_log.audit_from.Goals.{Start}
 use Rattle.negotiation.proofs.audit_log.audit_from.Goals as goal
@@ -14,14 +15,13 @@ use Rattle.negotiation.proofs.audit_log.audit_from.Goals as goal
 -- the job that is lent
 abbrev job : Start → Job
 job e =
-    job_of e.args.kind.now e.args.capacity.now e.args.first_edge.now e.args.edge_target.now e.args.source.now
-    e.args.first_sink.now e.args.sink.now e.args.delay.now e.args.criticality.now e.args.terms
+    job_in e.args.job.now
 
-few-nodes : (e : Start) → length e.args.kind.now ≤ 4096
+few-nodes : (e : Start) → length e.args.job.now.block.kind.now ≤ 4096
 few-nodes e = kinds-few _ e.requires.0.block-sound.kinds_sound_lem
 
-pub overflow_mul-kind : goal.overflow_mul-kind
-overflow_mul-kind c = let few = few-nodes (goal.at.overflow_mul-kind c).Start in omega arith
+pub overflow_mul-job : goal.overflow_mul-job
+overflow_mul-job c = let few = few-nodes (goal.at.overflow_mul-job c).Start in omega arith
 
 pub returns-then-log-used : goal.returns-then-log-used
 returns-then-log-used c =
@@ -31,8 +31,8 @@ returns-then-log-used c =
 pub slice_bounds-take_up-end : goal.slice_bounds-take_up-end
 slice_bounds-take_up-end c = sym (length-take-le _ _ c.if-log-used.false)
 
-pub overflow_mul-kind-2 : goal.overflow_mul-kind-2
-overflow_mul-kind-2 c = let few = few-nodes (goal.at.overflow_mul-kind-2 c).Start in omega arith
+pub overflow_mul-job-2 : goal.overflow_mul-job-2
+overflow_mul-job-2 c = let few = few-nodes (goal.at.overflow_mul-job-2 c).Start in omega arith
 
 pub clear-requires-2 : goal.clear-requires-2
 clear-requires-2 c =

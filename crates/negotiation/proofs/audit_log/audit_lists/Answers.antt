@@ -7,7 +7,8 @@ use Prim.Native.Nat.{ℕ, ◌≤◌}
 use lib.ListN.{length, take, replicate}
 use lib.Seq.{length-take-le}
 use Rattle.search.proofs.BlockLaws.{kinds-few}
-use Rattle.job.specs.Job.{Job, job_of, nodes, nets}
+use Rattle.job.specs.Job.{Job, nodes, nets}
+use Rattle.job.specs.Lent.{job_in}
 use Rattle.negotiation.specs.Outcome.{first_progress}
 use Rattle.negotiation.specs.Kept.{Ready}
 use Rattle.negotiation.proofs.KeepStart.{take-replicate, begun_ready}
@@ -15,16 +16,15 @@ use Rattle.negotiation.proofs.audit_log.audit_lists.Goals.{Start}
 use Rattle.negotiation.proofs.audit_log.audit_lists.Goals as goal
 
 module _ (e : Start) where
-  few-nodes : length e.args.kind.now ≤ 4096
+  few-nodes : length e.args.job.now.block.kind.now ≤ 4096
   few-nodes = kinds-few _ e.requires.0.block-sound.kinds_sound_lem
 
-  few-nets : length e.args.source.now ≤ 512
+  few-nets : length e.args.job.now.source.now ≤ 512
   few-nets = e.requires.0.nets-few
 
   abbrev job : Job
   job =
-      job_of e.args.kind.now e.args.capacity.now e.args.first_edge.now e.args.edge_target.now e.args.source.now e.args.first_sink.now
-      e.args.sink.now e.args.delay.now e.args.criticality.now e.args.terms
+      job_in e.args.job.now
 
   -- what is lent is ready for a run that begins
   ready :

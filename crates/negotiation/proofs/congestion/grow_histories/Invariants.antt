@@ -17,6 +17,3 @@ abbrev pub invariant-loop-v : goal.invariant-loop-v
 invariant-loop-v l =
     (l.v ≤ length l.initial.history) × (length l.history ≡ length l.initial.history)
     × (l.history ≡ up_to (next l.g l.capacity l.users l.initial.history) l.v ++ drop l.v l.initial.history)
-
-abbrev pub decreases-loop-v : goal.decreases-loop-v
-decreases-loop-v l = length l.initial.history - l.v

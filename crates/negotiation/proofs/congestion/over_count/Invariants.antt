@@ -10,6 +10,3 @@ use Rattle.negotiation.proofs.congestion.over_count.Given as goal
 abbrev pub invariant-loop-v : goal.invariant-loop-v
 invariant-loop-v l =
     (l.v ≤ length l.capacity) × (l.over ≡ count_below (λ (u : ℕ). ltb (get_or l.capacity u 0) (get_or l.users u 0)) l.v)
-
-abbrev pub decreases-loop-v : goal.decreases-loop-v
-decreases-loop-v l = length l.capacity - l.v

@@ -14,7 +14,7 @@ use Rattle.negotiation.proofs.due.mark_due.Goals as goal
 -- a net's mark by the lists that are lent
 abbrev mark_at : Start → Bool → ℕ → ℕ
 mark_at s all =
-    mark all s.args.capacity.now s.args.first_sink.now s.args.log.now s.args.tree_from.now s.args.tree_to.now s.args.users.now
+    mark all s.args.job.now.block.capacity.now s.args.job.now.first_sink.now s.args.log.now s.args.tree_from.now s.args.tree_to.now s.args.users.now
 
 pub loop-net-init : goal.loop-net-init
 loop-net-init c = (omega arith, refl, filled_none (mark_at (goal.at.loop-net-init c).Start c.all_due-all.result) _)

@@ -16,7 +16,4 @@ mark all capacities firsts log from to users k = choose (takes all capacities fi
 
 abbrev pub invariant-loop-net : goal.invariant-loop-net
 invariant-loop-net l =
-    (l.net ≤ length l.initial.due) × (length l.due ≡ length l.initial.due) × (l.due ≡ up_to (mark l.all l.capacity l.first_sink l.log l.tree_from l.tree_to l.users) l.net ++ drop l.net l.initial.due)
-
-abbrev pub decreases-loop-net : goal.decreases-loop-net
-decreases-loop-net l = length l.initial.due - l.net
+    (l.net ≤ length l.initial.due) × (length l.due ≡ length l.initial.due) × (l.due ≡ up_to (mark l.all l.job.block.capacity.now l.job.first_sink.now l.log l.tree_from l.tree_to l.users) l.net ++ drop l.net l.initial.due)

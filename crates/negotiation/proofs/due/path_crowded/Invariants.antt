@@ -10,6 +10,3 @@ use Rattle.negotiation.proofs.due.path_crowded.Given as goal
 
 abbrev pub invariant-loop-k : goal.invariant-loop-k
 invariant-loop-k l = Between l.from l.to l.k l.log × (some_over l.capacity l.users (slice l.from l.k l.log) ≡ false)
-
-abbrev pub decreases-loop-k : goal.decreases-loop-k
-decreases-loop-k l = l.to - l.k

@@ -10,15 +10,12 @@ use Rattle.negotiation.proofs.flood.flood.Goals.{In-loop-next}
 use Rattle.negotiation.proofs.flood.flood.Goals as goal
 
 -- a turn's entry of the queue is one of at most as many as there are nodes
-next-few : (t : In-loop-next) → t.loop-next.next < length t.args.kind.now
+next-few : (t : In-loop-next) → t.loop-next.next < length t.args.tables.now.kind.now
 next-few t = omega (arith, t.loop-next-test.true, queue-few t.loop-next.invariant.0.queue)
-
-pub clear_marks-requires : goal.clear_marks-requires
-clear_marks-requires c = tt
 
 pub bounds-reached-source : goal.bounds-reached-source
 bounds-reached-source c =
-    let e : c.clear_marks.new.reached ≡ replicate (length c.args.reached.now) 0 = c.clear_marks.ensures in
+    let e : c.fill.new.self ≡ replicate (length c.args.reached.now) 0 = c.fill.ensures.after (λ y e. e) in
     let node = c.requires.source-node in
     let long = c.requires.marks_long in
     rw (e, length-replicate {A = ℕ} (length c.args.reached.now) 0) (omega arith)
@@ -31,7 +28,7 @@ bounds-work-0 c =
     some
 
 pub loop-next-init : goal.loop-next-init
-loop-next-init c = (flood_start c.requires c.clear_marks.ensures, omega arith, λ p l. absurd (omega arith))
+loop-next-init c = (flood_start c.requires (c.fill.ensures.after (λ y e. e)), omega arith, λ p l. absurd (omega arith))
 
 pub missing_sink-missing-requires : goal.missing_sink-missing-requires
 missing_sink-missing-requires c =
@@ -46,7 +43,7 @@ shape_of-work-then-missing-sinks c = c.loop-next.invariant.0.same.long ∙ lengt
 pub returns-then-missing-sinks : goal.returns-then-missing-sinks
 returns-then-missing-sinks c =
     let node = c.requires.source-node in
-    flood_stop c.requires.graph c.loop-next.invariant.0 (same_from_set (length c.args.kind.now) 0 c.args.source c.args.work.now (omega arith))
+    flood_stop c.requires.graph c.loop-next.invariant.0 (same_from_set (length c.args.tables.now.kind.now) 0 c.args.source c.args.work.now (omega arith))
     c.requires.sinks-nodes c.loop-next.invariant.2 c.missing_sink-missing.ensures c.if-missing-sinks.true
 
 pub offset_bounds-work-next : goal.offset_bounds-work-next
@@ -86,4 +83,4 @@ pub returns : goal.returns
 returns c =
     let node = c.requires.source-node in
     flood_whole c.requires.graph c.loop-next.invariant.0 c.loop-next-test.false
-    (same_from_set (length c.args.kind.now) 0 c.args.source c.args.work.now (omega arith))
+    (same_from_set (length c.args.tables.now.kind.now) 0 c.args.source c.args.work.now (omega arith))

@@ -10,7 +10,7 @@ use Rattle.negotiation.proofs.flood.flood.Given as goal
 
 abbrev pub invariant-loop-next : goal.invariant-loop-next
 invariant-loop-next l =
-    Flooding (graph_of l.kind l.first_edge l.edge_target) l.source l.next l.end l.reached l.initial.work l.work × (l.missing ≤ length l.sinks) × ((p : ℕ) → p < l.missing → get_or l.reached (get_or l.sinks p 0) 0 ≡ 1)
+    Flooding (graph_of l.tables.kind.now l.tables.first_edge.now l.tables.edge_target.now) l.source l.next l.end l.reached l.initial.work l.work × (l.missing ≤ length l.sinks) × ((p : ℕ) → p < l.missing → get_or l.reached (get_or l.sinks p 0) 0 ≡ 1)
 
 abbrev pub decreases-loop-next : goal.decreases-loop-next
-decreases-loop-next l = length l.kind - l.next
+decreases-loop-next l = length l.tables.kind.now - l.next

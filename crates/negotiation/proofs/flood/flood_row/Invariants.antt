@@ -1,4 +1,4 @@
--- `negotiation::flood::flood_row` meets its contract. The invariant: the row is flooded up to place e. The measure is what is left of the row.
+-- `negotiation::flood::flood_row` meets its contract. The invariant: the row is flooded up to place e.
 -- Assumes nothing.
 use Prim.Native.Nat.{◌-◌, ◌≤◌}
 use Rattle.search.specs.Block.{graph_of, row_start}
@@ -6,7 +6,4 @@ use Rattle.negotiation.specs.Flood.{RowFlooded}
 use Rattle.negotiation.proofs.flood.flood_row.Given as goal
 
 abbrev pub invariant-loop-e : goal.invariant-loop-e
-invariant-loop-e l = (row_start (graph_of l.kind l.first_edge l.edge_target) l.u ≤ l.e) × (l.e ≤ l.to) × RowFlooded (graph_of l.kind l.first_edge l.edge_target) l.u l.e l.end l.last l.initial.reached l.reached l.initial.work l.work
-
-abbrev pub decreases-loop-e : goal.decreases-loop-e
-decreases-loop-e l = l.to - l.e
+invariant-loop-e l = (row_start (graph_of l.tables.kind.now l.tables.first_edge.now l.tables.edge_target.now) l.u ≤ l.e) × (l.e ≤ l.to) × RowFlooded (graph_of l.tables.kind.now l.tables.first_edge.now l.tables.edge_target.now) l.u l.e l.end l.last l.initial.reached l.reached l.initial.work l.work

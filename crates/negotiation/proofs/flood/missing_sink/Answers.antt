@@ -20,4 +20,4 @@ pub loop-place-preserved : goal.loop-place-preserved
 loop-place-preserved c = (omega arith, below_more _ _ c.loop-place.invariant.1 (λ h. omega (arith, c.if-reached-s-eq0.false)))
 
 pub returns : goal.returns
-returns c = record { within = c.loop-place.invariant.0; before = c.loop-place.invariant.1; here = λ h. absurd (omega arith) }
+returns c = record { within = omega arith; before = λ p l. c.loop-place.invariant.1 p (omega arith); here = λ h. absurd (omega arith) }

@@ -6,6 +6,3 @@ use Rattle.negotiation.proofs.flood.missing_sink.Given as goal
 
 abbrev pub invariant-loop-place : goal.invariant-loop-place
 invariant-loop-place l = (l.place ≤ length l.sinks) × ((p : ℕ) → p < l.place → l.from ≤ p → 0 < get_or l.reached (get_or l.sinks p 0) 0)
-
-abbrev pub decreases-loop-place : goal.decreases-loop-place
-decreases-loop-place l = length l.sinks - l.place

@@ -3,7 +3,7 @@
 use mathlib.Core.Bool.{not}
 use Rattle.std.proofs.Common.{ap}
 use mathlib.Core.Bool.{true}
-use mathlib.Core.Path.{◌≡◌, refl}
+use mathlib.Core.Path.{◌≡◌, refl, sym, ◌∙◌}
 use Prim.Native.Nat.{◌+◌}
 use native.Mathlib.Omega.{arith}
 use lib.ListN.{length, drop}
@@ -17,11 +17,11 @@ use Rattle.negotiation.proofs.follow.follow_turn.Goals as goal
 -- the frame follows
 follows :
     (c : Else-not-frame_follows)
-    → frame_follows (length c.args.kind.now) c.args.tariff.iteration c.args.net (drop c.args.tariff.words c.args.log.now) ≡ true
+    → frame_follows (length c.args.tables.now.kind.now) c.args.tariff.iteration c.args.net (drop c.args.tariff.words c.args.log.now) ≡ true
 follows c = passed c.frame_follows.ensures (ap not c.if-not-frame_follows.false)
 
 -- so the log has it
-frame : (c : Else-not-frame_follows) → FrameAt (length c.args.kind.now) c.args.tariff.iteration c.args.net c.args.log.now c.args.tariff.words
+frame : (c : Else-not-frame_follows) → FrameAt (length c.args.tables.now.kind.now) c.args.tariff.iteration c.args.net c.args.log.now c.args.tariff.words
 frame c = frame_at _ _ _ c.args.log.now c.args.tariff.words (follows c)
 
 pub returns-then-not-frame_follows : goal.returns-then-not-frame_follows
@@ -42,19 +42,23 @@ path_cost-requires c = turn-ready c.requires _ _ (follows (goal.at.path_cost-req
 pub cost_is-requires : goal.cost_is-requires
 cost_is-requires c = let long = (frame (goal.at.cost_is-requires c).Else-not-frame_follows).long in omega arith
 
-pub returns-then-not-cost_is : goal.returns-then-not-cost_is
-returns-then-not-cost_is c = record {
-  value = turn_dear c.requires _ _ (follows (goal.at.returns-then-not-cost_is c).Else-not-frame_follows) c.path_cost.ensures.value c.in-Cost.is
-      (refused c.cost_is.ensures (ap not c.if-not-cost_is.true));
-  stored = λ some. absurd (some refl);
+pub returns-in_err-cost : goal.returns-in_err-cost
+returns-in_err-cost c = record {
+  value = c.from_residual.ensures
+      ∙ turn_strays c.requires _ _ (follows (goal.at.returns-in_err-cost c).Else-not-frame_follows) c.path_cost.ensures.value c.in_err-cost.was;
+  stored = λ some. absurd (some c.from_residual.ensures);
 }
 
-pub returns-in-Strays : goal.returns-in-Strays
-returns-in-Strays c = record { value = turn_strays c.requires _ _ (follows (goal.at.returns-in-Strays c).Else-not-frame_follows) c.path_cost.ensures.value c.in-Strays.is; stored = λ some. absurd (some refl) }
+pub returns-then-cost_is : goal.returns-then-cost_is
+returns-then-cost_is c = record {
+  value = turn_on c.requires _ _ (follows (goal.at.returns-then-cost_is c).Else-not-frame_follows) c.path_cost.ensures.value c.in_ok-cost.was
+      (sym c.cost_is.ensures ∙ c.if-cost_is.true);
+  stored = λ some. turn-marked c.requires _ _ (follows (goal.at.returns-then-cost_is c).Else-not-frame_follows) c.in_ok-cost.was c.path_cost.ensures.path_marked;
+}
 
-pub returns-else-not-cost_is : goal.returns-else-not-cost_is
-returns-else-not-cost_is c = record {
-  value = turn_on c.requires _ _ (follows (goal.at.returns-else-not-cost_is c).Else-not-frame_follows) c.path_cost.ensures.value c.in-Cost.is
-      (passed c.cost_is.ensures (ap not c.if-not-cost_is.false));
-  stored = λ some. turn-marked c.requires _ _ (follows (goal.at.returns-else-not-cost_is c).Else-not-frame_follows) c.in-Cost.is c.path_cost.ensures.path_marked;
+pub returns-else-cost_is : goal.returns-else-cost_is
+returns-else-cost_is c = record {
+  value = turn_dear c.requires _ _ (follows (goal.at.returns-else-cost_is c).Else-not-frame_follows) c.path_cost.ensures.value c.in_ok-cost.was
+      (sym c.cost_is.ensures ∙ c.if-cost_is.false);
+  stored = λ some. absurd (some refl);
 }

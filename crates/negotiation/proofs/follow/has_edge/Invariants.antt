@@ -6,7 +6,4 @@ use Rattle.negotiation.proofs.follow.PassLoopLaws.{RowLeft}
 use Rattle.negotiation.proofs.follow.has_edge.Given as goal
 
 abbrev pub invariant-loop-e : goal.invariant-loop-e
-invariant-loop-e l = RowLeft (graph_of l.kind l.first_edge l.edge_target) l.u l.v l.e
-
-abbrev pub decreases-loop-e : goal.decreases-loop-e
-decreases-loop-e l = l.to - l.e
+invariant-loop-e l = RowLeft (graph_of l.tables.kind.now l.tables.first_edge.now l.tables.edge_target.now) l.u l.v l.e

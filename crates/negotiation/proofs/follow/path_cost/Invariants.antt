@@ -8,7 +8,4 @@ use Rattle.negotiation.proofs.follow.path_cost.Given as goal
 
 abbrev pub invariant-loop-k : goal.invariant-loop-k
 invariant-loop-k l =
-    Passing (block_of l.kind l.capacity l.first_edge l.edge_target) (weighed_congestion l.weighting l.delay l.factor l.history l.users) l.goals l.initial.in_tree l.log l.from l.to l.in_tree l.u l.cost l.k
-
-abbrev pub decreases-loop-k : goal.decreases-loop-k
-decreases-loop-k l = l.to - l.k
+    Passing (block_of l.tables.kind.now l.tables.capacity.now l.tables.first_edge.now l.tables.edge_target.now) (weighed_congestion l.prices.weighting l.prices.delay.now l.prices.factor l.prices.history.now l.prices.others.now) l.goals l.initial.in_tree l.log l.from l.to l.in_tree l.u l.cost l.k

@@ -18,11 +18,11 @@ pub returns-then-not-has_edge : goal.returns-then-not-has_edge
 returns-then-not-has_edge c = step_off _ _ _ _ _ _ (refused c.has_edge.ensures (ap not c.if-not-has_edge.true))
 
 -- the edge is there
-edge : (c : Else-not-has_edge) → has_edge (graph_of c.args.kind.now c.args.first_edge.now c.args.edge_target.now) c.args.u c.args.v ≡ true
+edge : (c : Else-not-has_edge) → has_edge (graph_of c.args.tables.now.kind.now c.args.tables.now.first_edge.now c.args.tables.now.edge_target.now) c.args.u c.args.v ≡ true
 edge c = passed c.has_edge.ensures (ap not c.if-not-has_edge.false)
 
 -- so it leads to a node
-node : (c : Else-not-has_edge) → c.args.v < length c.args.kind.now
+node : (c : Else-not-has_edge) → c.args.v < length c.args.tables.now.kind.now
 node c = edge_to _ c.requires.graph.0 _ _ (edge c)
 
 pub bounds-in_tree-v : goal.bounds-in_tree-v

@@ -6,6 +6,3 @@ use Rattle.negotiation.proofs.join.gather.Given as goal
 
 abbrev pub invariant-loop-k : goal.invariant-loop-k
 invariant-loop-k l = Gathering l.table l.places l.count l.initial.entries l.entries l.k
-
-abbrev pub decreases-loop-k : goal.decreases-loop-k
-decreases-loop-k l = l.count - l.k

@@ -1,8 +1,8 @@
 -- `join::join_nets` meets its contract. The loop's invariant: the places of the nets passed stand first, and where each net's begin.
 -- Assumes nothing.
-use mathlib.Core.Path.{sym, ◌∙◌}
+use mathlib.Core.Path.{◌≡◌, sym, ◌∙◌}
 use native.Mathlib.Omega.{arith}
-use lib.ListN.{length-set}
+use lib.ListN.{length, length-set}
 use Rattle.negotiation.proofs.JoiningLaws.{joining_none, joining_few, joining_room, joining_more, joining_all}
 use Rattle.negotiation.proofs.join.join_nets.Goals as goal
 
@@ -35,11 +35,11 @@ loop-net-preserved c =
 pub overflow_cast-firsts-2 : goal.overflow_cast-firsts-2
 overflow_cast-firsts-2 c = omega (arith, joining_few c.loop-net.invariant c.requires.joinable)
 
-pub offset_bounds-firsts-net-2 : goal.offset_bounds-firsts-net-2
-offset_bounds-firsts-net-2 c = omega (arith, c.loop-net.invariant.firsts-long)
+pub offset_bounds-firsts-source : goal.offset_bounds-firsts-source
+offset_bounds-firsts-source c = omega (arith, c.loop-net.invariant.firsts-long)
 
-pub bounds-firsts-net-2 : goal.bounds-firsts-net-2
-bounds-firsts-net-2 c = omega (arith, c.loop-net.invariant.firsts-long)
+pub bounds-firsts-source : goal.bounds-firsts-source
+bounds-firsts-source c = omega (arith, c.loop-net.invariant.firsts-long)
 
 pub shape_of-firsts : goal.shape_of-firsts
 shape_of-firsts c = length-set c.loop-net.firsts _ _ ∙ c.loop-net.invariant.firsts-long
@@ -48,4 +48,6 @@ pub shape_of-places : goal.shape_of-places
 shape_of-places c = c.loop-net.invariant.places-long
 
 pub returns : goal.returns
-returns c = joining_all c.loop-net.invariant c.loop-net-test.false c.requires.source_in_bounds.0
+returns c =
+    let end : c.loop-net.net ≡ length c.args.source.now = omega arith in
+    rw end at (joining_all c.loop-net.invariant c.loop-net-test.false c.requires.source_in_bounds.0)

@@ -7,6 +7,3 @@ use Rattle.negotiation.proofs.join.join_nets.Given as goal
 
 abbrev pub invariant-loop-net : goal.invariant-loop-net
 invariant-loop-net l = Joining l.source l.first_sink l.sink l.initial.firsts l.initial.places l.firsts l.places l.seen l.count l.net
-
-abbrev pub decreases-loop-net : goal.decreases-loop-net
-decreases-loop-net l = length l.source - l.net

@@ -7,6 +7,3 @@ use Rattle.negotiation.proofs.join.join_one.Given as goal
 
 abbrev pub invariant-loop-k : goal.invariant-loop-k
 invariant-loop-k l = TakingNets l.source l.first_sink l.sink l.net l.initial.seen l.initial.places l.seen l.places l.count l.k
-
-abbrev pub decreases-loop-k : goal.decreases-loop-k
-decreases-loop-k l = length l.source - l.k

@@ -6,6 +6,3 @@ use Rattle.negotiation.proofs.join.take_listed.Given as goal
 
 abbrev pub invariant-loop-p : goal.invariant-loop-p
 invariant-loop-p l = Taking l.stamp l.from l.to l.start l.sink l.initial.seen l.initial.places l.seen l.places l.count l.p
-
-abbrev pub decreases-loop-p : goal.decreases-loop-p
-decreases-loop-p l = l.to - l.p

@@ -8,6 +8,3 @@ use Rattle.negotiation.proofs.order.place_due.Given as goal
 
 abbrev pub invariant-loop-place : goal.invariant-loop-place
 invariant-loop-place l = Leading (tree_has l.in_tree) l.sinks l.criticality l.place l.due l.least × (l.place ≤ length l.sinks)
-
-abbrev pub decreases-loop-place : goal.decreases-loop-place
-decreases-loop-place l = length l.sinks - l.place

@@ -8,6 +8,3 @@ use Rattle.negotiation.proofs.records.copy_path.Given as goal
 
 abbrev pub invariant-loop-k : goal.invariant-loop-k
 invariant-loop-k l = (l.k ≤ l.count) × (length l.log ≡ length l.initial.log) × (l.log ≡ paste l.initial.log l.at l.work l.k)
-
-abbrev pub decreases-loop-k : goal.decreases-loop-k
-decreases-loop-k l = l.count - l.k

@@ -5,25 +5,21 @@ use mathlib.Core.Path.{◌≡◌, refl}
 use Prim.Native.Nat.{ℕ, ◌+◌, ◌*◌}
 use native.Mathlib.Omega.{arith}
 use lib.ListN.{length, get_or}
-use Rattle.job.specs.Job.{Job, job_of}
+use Rattle.job.specs.Job.{Job}
+use Rattle.job.specs.Lent.{job_in}
 use Rattle.negotiation.specs.Routable.{Routable}
 use Rattle.negotiation.specs.Steps.{SameFrom}
 use Rattle.negotiation.specs.TakeSteps.{NetTables, NetsOpen, NetsOn}
-use Rattle.job.specs.declared.Terms.{Terms}
 use Rattle.negotiation.proofs.KeepTurn.{same_twice}
+use Rattle.negotiation.proofs.take_up.JudgedLaws.{sent_on}
 use Rattle.negotiation.proofs.take_up.TakeNetLaws.{net_tables, nets-start, net-ready, net_asks, nets-stopped, end-ready, net-next, nets-all}
-use Rattle.negotiation.proofs.take_up.follow_nets.Goals.{After-follow_net-taken, At-loop-net}
+use Rattle.negotiation.proofs.take_up.follow_nets.Goals.{After-follow_net, At-loop-net}
 use Rattle.negotiation.proofs.take_up.follow_nets.Goals as goal
 
 module _ (c : At-loop-net) where
-  abbrev job_with_lem : Terms → Job
-  job_with_lem terms =
-      job_of c.args.kind.now c.args.capacity.now c.args.first_edge.now c.args.edge_target.now c.args.source.now c.args.first_sink.now
-      c.args.sink.now c.args.delay.now c.args.criticality.now terms
-
-  -- the terms and the progress that are asked for
+  -- the progress that is asked for
   abbrev job : Job
-  job = job_with_lem c.requires.0.terms
+  job = job_in c.args.job.now
 
   opened :
       NetsOpen job c.requires.0.progress c.args.begun c.args.history.now c.args.users.now c.args.in_tree.now c.args.tree_from.now
@@ -35,82 +31,80 @@ module _ (c : At-loop-net) where
 
   -- the tables of a net
   tables :
-      (terms : Terms) → c.args.timed ≡ terms.timed → (i : ℕ)
-      → NetTables (job_with_lem terms) i c.args.delay.now c.args.criticality.now c.args.timed (get_or c.args.first_sink.now i 0)
-      (get_or c.args.first_sink.now (i + 1) 0)
-  tables terms w i = net_tables _ _ _ _ _ _ _ _ _ terms i w
+      (i : ℕ)
+      → NetTables job i c.args.job.now.delay.now c.args.job.now.criticality.now c.args.job.now.terms.timed (get_or c.args.job.now.first_sink.now i 0)
+      (get_or c.args.job.now.first_sink.now (i + 1) 0)
+  tables i = net_tables _ _ _ _ _ _ _ _ _ c.args.job.now.terms i refl
 
   -- the nets so far, of what is asked for
   so_far :
       NetsOn c.args.walk.audit job c.requires.0.progress c.loop-net.net c.loop-net.tariff c.args.history.now c.loop-net.users c.loop-net.in_tree
       c.loop-net.tree_from c.loop-net.tree_to c.args.log.now
-  so_far = c.loop-net.invariant.0 _ _ c.requires.0.timed_is opened
+  so_far = c.loop-net.invariant.0 _ opened
 
-module _ (c : After-follow_net-taken) where
+module _ (c : After-follow_net) where
   -- the work memory that they leave
   work-same :
-      SameFrom (8 * length c.args.kind.now) c.args.work.now c.follow_net-taken.new.work
-  work-same = same_twice c.loop-net.invariant.2 c.follow_net-taken.ensures.same_from
+      SameFrom (8 * length c.args.job.now.block.kind.now) c.args.work.now c.follow_net.new.work
+  work-same = same_twice c.loop-net.invariant.2 c.follow_net.ensures.same_from
 
 pub loop-net-init : goal.loop-net-init
-loop-net-init c = ((λ terms p w o. nets-start _ _ o), omega arith, record { long = refl; high = λ k l. refl })
+loop-net-init c = ((λ p o. nets-start _ _ o), omega arith, record { long = refl; high = λ k l. refl })
 
-pub bounds-first_sink-net : goal.bounds-first_sink-net
-bounds-first_sink-net c = let l = (routable (goal.at.bounds-first_sink-net c).At-loop-net).first_sinks-long in let h = c.loop-net-test.true in omega arith
+pub bounds-job-net : goal.bounds-job-net
+bounds-job-net c = let l = (routable (goal.at.bounds-job-net c).At-loop-net).first_sinks-long in let h = c.loop-net-test.true in omega arith
 
-pub bounds-first_sink-net-in-loop-net : goal.bounds-first_sink-net-in-loop-net
-bounds-first_sink-net-in-loop-net c = let l = (routable (goal.at.bounds-first_sink-net-in-loop-net c).At-loop-net).first_sinks-long in let h = c.loop-net-test.true in omega arith
+pub bounds-job-net-in-loop-net : goal.bounds-job-net-in-loop-net
+bounds-job-net-in-loop-net c = let l = (routable (goal.at.bounds-job-net-in-loop-net c).At-loop-net).first_sinks-long in let h = c.loop-net-test.true in omega arith
 
 pub begin_net-turns-requires : goal.begin_net-turns-requires
 begin_net-turns-requires c =
     let o = opened (goal.at.begin_net-turns-requires c).At-loop-net in
     net-ready _ o.routable o.due-is (so_far (goal.at.begin_net-turns-requires c).At-loop-net) c.loop-net-test.true
 
-pub follow_net-taken-requires : goal.follow_net-taken-requires
-follow_net-taken-requires c =
-    let o = opened (goal.at.follow_net-taken-requires c).At-loop-net in
+pub follow_net-requires : goal.follow_net-requires
+follow_net-requires c =
+    let o = opened (goal.at.follow_net-requires c).At-loop-net in
     let room = c.requires.1 in
     let same = c.loop-net.invariant.2.long in
     λ some. (
       record {
-        sources = c.args.source.now;
-        first_sinks = c.args.first_sink.now;
-        terms = c.requires.0.terms;
-        progress = (so_far (goal.at.follow_net-taken-requires c).At-loop-net).progress;
+        progress = (so_far (goal.at.follow_net-requires c).At-loop-net).progress;
         opens =
-            net_asks _ o.routable o.due-is (so_far (goal.at.follow_net-taken-requires c).At-loop-net) c.loop-net-test.true c.begin_net-turns.ensures.idle c.begin_net-turns.ensures.begun
-            (tables (goal.at.follow_net-taken-requires c).At-loop-net _ c.requires.0.timed_is _) some;
+            net_asks _ o.routable o.due-is (so_far (goal.at.follow_net-requires c).At-loop-net) c.loop-net-test.true c.begin_net-turns.ensures.idle c.begin_net-turns.ensures.begun
+            (tables (goal.at.follow_net-requires c).At-loop-net _) some;
       },
       omega arith,
     )
 
-pub returns-in_default : goal.returns-in_default
-returns-in_default c = record {
-  same_from = work-same (goal.at.returns-in_default c).After-follow_net-taken;
-  nets_answered = λ terms p w o.
-      nets-stopped _ o.routable o.due-is (c.loop-net.invariant.0 _ _ w o) c.loop-net-test.true c.begin_net-turns.ensures.idle c.begin_net-turns.ensures.begun
-      (tables (goal.at.returns-in_default c).At-loop-net terms w _) c.args.walk.over c.follow_net-taken.ensures.value (λ q. c.follow_net-taken.ensures.net_answered _ _ _ _ q)
-      c.in_default.not-On _ _ _ _ _;
+pub returns-in_err-tariff : goal.returns-in_err-tariff
+returns-in_err-tariff c = record {
+  same_from = work-same (goal.at.returns-in_err-tariff c).After-follow_net;
+  nets_answered = λ p o.
+      rw (sent_on c.from_residual.result c.from_residual.ensures.1)
+      (nets-stopped _ o.routable o.due-is (c.loop-net.invariant.0 _ o) c.loop-net-test.true c.begin_net-turns.ensures.idle c.begin_net-turns.ensures.begun
+      (tables (goal.at.returns-in_err-tariff c).At-loop-net _) c.args.walk.over c.follow_net.ensures.value (λ q. c.follow_net.ensures.net_answered _ q)
+      c.in_err-tariff.was _ _ _ _ _);
 }
 
 pub end_net-requires : goal.end_net-requires
 end_net-requires c =
     let o = opened (goal.at.end_net-requires c).At-loop-net in
     end-ready _ o.routable o.due-is (so_far (goal.at.end_net-requires c).At-loop-net) c.loop-net-test.true c.begin_net-turns.ensures.idle c.begin_net-turns.ensures.begun
-    (tables (goal.at.end_net-requires c).At-loop-net _ c.requires.0.timed_is _) c.args.walk.over c.follow_net-taken.ensures.value
-    (λ q. c.follow_net-taken.ensures.net_answered _ _ _ _ q) c.in-On.is
+    (tables (goal.at.end_net-requires c).At-loop-net _) c.args.walk.over c.follow_net.ensures.value
+    (λ q. c.follow_net.ensures.net_answered _ q) c.in_ok-tariff.was
 
 pub loop-net-preserved : goal.loop-net-preserved
 loop-net-preserved c =
     let few = c.loop-net-test.true in (
-      (λ terms p w o.
-          net-next _ o.routable o.due-is (c.loop-net.invariant.0 _ _ w o) c.loop-net-test.true c.begin_net-turns.ensures.idle c.begin_net-turns.ensures.begun
-          (tables (goal.at.loop-net-preserved c).At-loop-net terms w _) c.args.walk.over c.follow_net-taken.ensures.value
-          (λ q. c.follow_net-taken.ensures.net_answered _ _ _ _ q) c.in-On.is
+      (λ p o.
+          net-next _ o.routable o.due-is (c.loop-net.invariant.0 _ o) c.loop-net-test.true c.begin_net-turns.ensures.idle c.begin_net-turns.ensures.begun
+          (tables (goal.at.loop-net-preserved c).At-loop-net _) c.args.walk.over c.follow_net.ensures.value
+          (λ q. c.follow_net.ensures.net_answered _ q) c.in_ok-tariff.was
           c.end_net.ensures.passed c.end_net.ensures.ended),
       omega arith,
-      work-same (goal.at.loop-net-preserved c).After-follow_net-taken,
+      work-same (goal.at.loop-net-preserved c).After-follow_net,
     )
 
 pub returns : goal.returns
-returns c = record { same_from = c.loop-net.invariant.2; nets_answered = λ terms p w o. nets-all _ (c.loop-net.invariant.0 _ _ w o) c.loop-net.invariant.1 c.loop-net-test.false }
+returns c = record { same_from = c.loop-net.invariant.2; nets_answered = λ p o. nets-all _ (c.loop-net.invariant.0 _ o) c.loop-net.invariant.1 c.loop-net-test.false }

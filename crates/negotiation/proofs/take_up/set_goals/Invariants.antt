@@ -5,8 +5,5 @@ use lib.ListN.{length, take}
 use Rattle.job.specs.Steps.{Stored}
 use Rattle.negotiation.proofs.take_up.set_goals.Given as goal
 
-abbrev pub invariant-loop-k : goal.invariant-loop-k
-invariant-loop-k l = Stored 1 (take l.k l.sinks) l.initial.goals l.goals
-
-abbrev pub decreases-loop-k : goal.decreases-loop-k
-decreases-loop-k l = length l.sinks - l.k
+abbrev pub invariant-loop-s : goal.invariant-loop-s
+invariant-loop-s l = Stored 1 (take l.s-index l.sinks) l.initial.goals l.goals

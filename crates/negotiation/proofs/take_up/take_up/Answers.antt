@@ -10,8 +10,8 @@ use Rattle.negotiation.specs.declared.tariff.Tariff.{Tariff}
 use Rattle.negotiation.proofs.RoutableLaws.{tuning-fits}
 use Rattle.negotiation.proofs.KeepProgress.{capacities_long, over_counted}
 use Rattle.negotiation.proofs.take_up.TakeNetLaws.{nets-long}
-use Rattle.negotiation.proofs.take_up.TakeLogLaws.{take-start, taking-long, take_on, nets-on, due_asks, growable, nets_open, take-stopped, same-iteration, take_whole, low, take_next}
-use Rattle.negotiation.proofs.take_up.JudgedLaws.{whole_said_so}
+use Rattle.negotiation.proofs.take_up.TakeLogLaws.{take-start, taking-long, take_on, nets-on, nets-err, due_asks, growable, nets_open, take-stopped, same-iteration, take_whole, low, take_next}
+use Rattle.negotiation.proofs.take_up.JudgedLaws.{whole_said_so, sent_on}
 use Rattle.negotiation.proofs.KeepTurn.{same_twice}
 use Rattle.negotiation.proofs.take_up.take_up.Goals as goal
 
@@ -23,50 +23,53 @@ mark_due-requires c =
     let asks = due_asks _ c.requires.0 c.loop-more.invariant.0 in
     record { due_ready = asks.0; due_len = asks.1 }
 
-pub follow_nets-taken-requires : goal.follow_nets-taken-requires
-follow_nets-taken-requires c =
+pub follow_nets-requires : goal.follow_nets-requires
+follow_nets-requires c =
     let room = c.requires.1 in
     let same = c.loop-more.invariant.1.long in
     let opened = nets_open _ c.requires.0 c.loop-more.invariant.0 c.mark_due.ensures in
-    (record { terms = _; timed_is = refl; progress = _; open_so = opened }, omega arith)
+    (record { progress = _; open_so = opened }, omega arith)
 
-pub returns-in_default : goal.returns-in_default
-returns-in_default c =
+pub returns-in_err-t : goal.returns-in_err-t
+returns-in_err-t c =
     let opened = nets_open _ c.requires.0 c.loop-more.invariant.0 c.mark_due.ensures in
-    let came = c.follow_nets-taken.ensures.nets_answered _ _ refl opened in
+    let came = c.follow_nets.ensures.nets_answered _ opened in
     record {
-      taken = take-stopped _ c.requires.0 c.loop-more.invariant.0 c.loop-more-test.true _ _ _ _ _ c.in_default.not-On came _ _ _ _ _ _;
-      same_from = same_twice c.loop-more.invariant.1 c.follow_nets-taken.ensures.same_from;
+      taken =
+          rw (sent_on c.from_residual.result c.from_residual.ensures.1)
+          (take-stopped _ c.requires.0 c.loop-more.invariant.0 c.loop-more-test.true _ _ _ _ _ (nets-err _ _ _ _ _ _ _ _ _ came c.in_err-t.was) _ _ _ _ _ _);
+      same_from = same_twice c.loop-more.invariant.1 c.follow_nets.ensures.same_from;
     }
 
 -- all nets follow: the nodes over capacity are counted
 pub over_count-over-requires : goal.over_count-over-requires
 over_count-over-requires c =
     let opened = nets_open _ c.requires.0 c.loop-more.invariant.0 c.mark_due.ensures in
-    let came = c.follow_nets-taken.ensures.nets_answered _ _ refl opened in
-    let all_on = nets-on _ _ _ _ _ _ _ _ _ came c.in-On.is in
+    let came = c.follow_nets.ensures.nets_answered _ opened in
+    let all_on = nets-on _ _ _ _ _ _ _ _ _ came c.in_ok-t.was in
     let long = capacities_long _ c.requires.0 in
     (le_of_eq (long ∙ sym (nets-long _ all_on).0), le_trans (le_of_eq long) (kinds-few _ c.requires.0.block-sound.kinds_sound_lem))
 
 -- an audit ends behind it, it settles, or is the limit's
-pub returns-in_default-whole : goal.returns-in_default-whole
-returns-in_default-whole c =
+pub returns-in_err-next : goal.returns-in_err-next
+returns-in_err-next c =
     let opened = nets_open _ c.requires.0 c.loop-more.invariant.0 c.mark_due.ensures in
-    let came = c.follow_nets-taken.ensures.nets_answered _ _ refl opened in
-    let all_on = nets-on _ _ _ _ _ _ _ _ _ came c.in-On.is in
+    let came = c.follow_nets.ensures.nets_answered _ opened in
+    let all_on = nets-on _ _ _ _ _ _ _ _ _ came c.in_ok-t.was in
     let counts = over_counted _ c.requires.0 _ c.over_count-over.ensures in
     record {
       taken =
-          take_whole _ c.requires.0 c.loop-more.invariant.0 c.loop-more-test.true all_on _ counts _ c.whole_iteration-whole.ensures
-          c.in_default-whole.not-On _ _ _ _ _ _;
-      same_from = same_twice c.loop-more.invariant.1 c.follow_nets-taken.ensures.same_from;
+          rw (sent_on c.from_residual-in_err-next.result c.from_residual-in_err-next.ensures.1)
+          (take_whole _ c.requires.0 c.loop-more.invariant.0 c.loop-more-test.true all_on _ counts _ (sym c.in_err-next.was ∙ c.whole_iteration.ensures)
+          _ _ _ _ _ _);
+      same_from = same_twice c.loop-more.invariant.1 c.follow_nets.ensures.same_from;
     }
 
 pub grow_histories-requires-clause-capacity_len : goal.grow_histories-requires-clause-capacity_len
 grow_histories-requires-clause-capacity_len c =
     let opened = nets_open _ c.requires.0 c.loop-more.invariant.0 c.mark_due.ensures in
-    let came = c.follow_nets-taken.ensures.nets_answered _ _ refl opened in
-    let all_on = nets-on _ _ _ _ _ _ _ _ _ came c.in-On.is in
+    let came = c.follow_nets.ensures.nets_answered _ opened in
+    let all_on = nets-on _ _ _ _ _ _ _ _ _ came c.in_ok-t.was in
     let long = capacities_long _ c.requires.0 in
     (long ∙ sym (nets-long _ all_on).0, long ∙ sym (taking-long _ c.loop-more.invariant.0).0)
 
@@ -78,10 +81,10 @@ grow_histories-requires-clause-by_index c =
 pub iteration_started-tariff-requires : goal.iteration_started-tariff-requires
 iteration_started-tariff-requires c =
     let opened = nets_open _ c.requires.0 c.loop-more.invariant.0 c.mark_due.ensures in
-    let came = c.follow_nets-taken.ensures.nets_answered _ _ refl opened in
-    let all_on = nets-on _ _ _ _ _ _ _ _ _ came c.in-On.is in
+    let came = c.follow_nets.ensures.nets_answered _ opened in
+    let all_on = nets-on _ _ _ _ _ _ _ _ _ came c.in_ok-t.was in
     let counts = over_counted _ c.requires.0 _ c.over_count-over.ensures in
-    let goes = sym c.in-On-whole.is ∙ c.whole_iteration-whole.ensures in
+    let goes = sym c.in_ok-next.was ∙ c.whole_iteration.ensures in
     let below = low _ c.requires.0 c.loop-more.invariant.0 c.loop-more-test.true all_on _ counts goes in
     let few = c.requires.0.limit_few in
     let ended = ap (λ (x : Tariff). x.iteration) c.iteration_ended.ensures in
@@ -91,10 +94,10 @@ iteration_started-tariff-requires c =
 pub loop-more-smaller : goal.loop-more-smaller
 loop-more-smaller c =
     let opened = nets_open _ c.requires.0 c.loop-more.invariant.0 c.mark_due.ensures in
-    let came = c.follow_nets-taken.ensures.nets_answered _ _ refl opened in
-    let all_on = nets-on _ _ _ _ _ _ _ _ _ came c.in-On.is in
+    let came = c.follow_nets.ensures.nets_answered _ opened in
+    let all_on = nets-on _ _ _ _ _ _ _ _ _ came c.in_ok-t.was in
     let counts = over_counted _ c.requires.0 _ c.over_count-over.ensures in
-    let goes = sym c.in-On-whole.is ∙ c.whole_iteration-whole.ensures in
+    let goes = sym c.in_ok-next.was ∙ c.whole_iteration.ensures in
     let below = low _ c.requires.0 c.loop-more.invariant.0 c.loop-more-test.true all_on _ counts goes in
     let kept = same-iteration _ c.requires.0 c.loop-more.invariant.0 c.loop-more-test.true all_on in
     let started = ap (λ (x : Tariff). x.iteration) c.iteration_started-tariff.ensures in
@@ -105,14 +108,14 @@ loop-more-smaller c =
 pub loop-more-preserved : goal.loop-more-preserved
 loop-more-preserved c =
     let opened = nets_open _ c.requires.0 c.loop-more.invariant.0 c.mark_due.ensures in
-    let came = c.follow_nets-taken.ensures.nets_answered _ _ refl opened in
-    let all_on = nets-on _ _ _ _ _ _ _ _ _ came c.in-On.is in
+    let came = c.follow_nets.ensures.nets_answered _ opened in
+    let all_on = nets-on _ _ _ _ _ _ _ _ _ came c.in_ok-t.was in
     let counts = over_counted _ c.requires.0 _ c.over_count-over.ensures in
-    let goes = sym c.in-On-whole.is ∙ c.whole_iteration-whole.ensures in
+    let goes = sym c.in_ok-next.was ∙ c.whole_iteration.ensures in
     let started = c.iteration_started-tariff.ensures ∙ ap started_tariff c.iteration_ended.ensures in
     let due_long = c.mark_due.auto.due ∙ (taking-long _ c.loop-more.invariant.0).5 in (
       take_next _ c.requires.0 c.loop-more.invariant.0 c.loop-more-test.true all_on _ counts goes due_long c.grow_histories.ensures started refl,
-      same_twice c.loop-more.invariant.1 c.follow_nets-taken.ensures.same_from,
+      same_twice c.loop-more.invariant.1 c.follow_nets.ensures.same_from,
     )
 
 pub returns : goal.returns

@@ -9,6 +9,3 @@ use Rattle.negotiation.proofs.trees.drop_path.Given as goal
 
 abbrev pub invariant-loop-k : goal.invariant-loop-k
 invariant-loop-k l = Between l.from l.to l.k l.log × Dropped (length l.initial.in_tree) (slice l.from l.k l.log) l.initial.users l.initial.in_tree l.users l.in_tree
-
-abbrev pub decreases-loop-k : goal.decreases-loop-k
-decreases-loop-k l = l.to - l.k

@@ -8,6 +8,3 @@ use Rattle.negotiation.proofs.trees.mark_path.Given as goal
 
 abbrev pub invariant-loop-k : goal.invariant-loop-k
 invariant-loop-k l = Between 0 l.count l.k l.work × Stored 1 (slice 0 l.k l.work) l.initial.in_tree l.in_tree
-
-abbrev pub decreases-loop-k : goal.decreases-loop-k
-decreases-loop-k l = l.count - l.k

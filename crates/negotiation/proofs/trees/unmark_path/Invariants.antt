@@ -8,6 +8,3 @@ use Rattle.negotiation.proofs.trees.unmark_path.Given as goal
 
 abbrev pub invariant-loop-k : goal.invariant-loop-k
 invariant-loop-k l = Between l.from l.to l.k l.log × Stored 0 (slice l.from l.k l.log) l.initial.in_tree l.in_tree
-
-abbrev pub decreases-loop-k : goal.decreases-loop-k
-decreases-loop-k l = l.to - l.k

@@ -8,10 +8,10 @@ use Rattle.negotiation.proofs.turns.run_aimed.Goals.{Start}
 use Rattle.negotiation.proofs.turns.run_aimed.Goals as goal
 
 -- the arrays are long enough
-few-firsts : (e : Start) → length e.args.kind.now + 1 ≤ 4097
+few-firsts : (e : Start) → length e.args.job.now.block.kind.now + 1 ≤ 4097
 few-firsts e = firsts_fit _ _ _ _ e.requires.0.0.block-sound
 
-few-sources : (e : Start) → length e.args.edge_target.now ≤ edges_most
+few-sources : (e : Start) → length e.args.job.now.block.edge_target.now ≤ edges_most
 few-sources e = sources_fit _ _ _ _ e.requires.0.0.block-sound
 
 pub slice_bounds-first_back-end : goal.slice_bounds-first_back-end

@@ -4,7 +4,8 @@
 use mathlib.Core.Path.{refl, sym}
 use lib.ListN.{take}
 use lib.Seq.{length-take-le}
-use Rattle.job.specs.Job.{Job, job_of}
+use Rattle.job.specs.Job.{Job}
+use Rattle.job.specs.Lent.{job_in}
 use Rattle.negotiation.proofs.turns.StartLaws.{begun_over, start_anew, start-beyond, start-taken}
 use Rattle.negotiation.proofs.turns.start_at.Goals.{Start}
 use Rattle.negotiation.proofs.turns.start_at.Goals as goal
@@ -12,21 +13,20 @@ use Rattle.negotiation.proofs.turns.start_at.Goals as goal
 -- the job that is lent
 abbrev job : Start → Job
 job e =
-    job_of e.args.kind.now e.args.capacity.now e.args.first_edge.now e.args.edge_target.now e.args.source.now
-    e.args.first_sink.now e.args.sink.now e.args.delay.now e.args.criticality.now e.args.terms
+    job_in e.args.job.now
 
 pub returns-then-log-used : goal.returns-then-log-used
-returns-then-log-used c = record { started = start-beyond (job (goal.at.returns-then-log-used c).Start) c.args.start c.args.log.now _ c.in-After.is c.if-log-used.true _ _ _ _ _ _; same_from = record { long = refl; high = λ k l. refl } }
+returns-then-log-used c = record { started = start-beyond (job (goal.at.returns-then-log-used c).Start) c.args.start c.args.log.now _ c.in-Some.is c.if-log-used.true _ _ _ _ _ _; same_from = record { long = refl; high = λ k l. refl } }
 
 pub slice_bounds-take_up-end : goal.slice_bounds-take_up-end
 slice_bounds-take_up-end c = sym (length-take-le _ _ c.if-log-used.false)
 
 pub take_up-requires : goal.take_up-requires
 take_up-requires c =
-    (c.requires.0, c.requires.1, begun_over (job (goal.at.take_up-requires c).Start) c.requires.2 (take c.in-After.used c.args.log.now))
+    (c.requires.0, c.requires.1, begun_over (job (goal.at.take_up-requires c).Start) c.requires.2 (take c.in-Some.used c.args.log.now))
 
-pub returns-in-Anew : goal.returns-in-Anew
-returns-in-Anew c = record { started = start_anew (job (goal.at.returns-in-Anew c).Start) c.args.start c.args.log.now c.in-Anew.is c.requires.2; same_from = record { long = refl; high = λ k l. refl } }
+pub returns-in-None : goal.returns-in-None
+returns-in-None c = record { started = start_anew (job (goal.at.returns-in-None c).Start) c.args.start c.args.log.now c.in-None.is c.requires.2; same_from = record { long = refl; high = λ k l. refl } }
 
 pub shape_of-history : goal.shape_of-history
 shape_of-history c = c.take_up.auto.history
@@ -51,7 +51,7 @@ shape_of-work c = c.take_up.auto.work
 
 pub returns-else-log-used : goal.returns-else-log-used
 returns-else-log-used c = record {
-  started = start-taken (job (goal.at.returns-else-log-used c).Start) c.args.start c.args.log.now _ c.in-After.is c.if-log-used.false
+  started = start-taken (job (goal.at.returns-else-log-used c).Start) c.args.start c.args.log.now _ c.in-Some.is c.if-log-used.false
       c.requires.0 c.take_up.result _ _ _ _ _ _ c.take_up.ensures.taken;
   same_from = c.take_up.ensures.same_from;
 }

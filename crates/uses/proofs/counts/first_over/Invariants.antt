@@ -1,6 +1,5 @@
 -- `counts::first_over` meets its contract: no kind before k has too many uses.
 -- Assumes nothing.
-use Prim.Native.Nat.{◌-◌}
 use Rattle.uses.specs.Uses.{kind_count}
 use Rattle.uses.specs.Steps.{over_nodes}
 use Rattle.uses.proofs.CountsLaws.{Scanning}
@@ -8,6 +7,3 @@ use Rattle.uses.proofs.counts.first_over.Given as goal
 
 abbrev pub invariant-loop-k : goal.invariant-loop-k
 invariant-loop-k l = Scanning (over_nodes l.uses l.nodes l.logs) l.k
-
-abbrev pub decreases-loop-k : goal.decreases-loop-k
-decreases-loop-k l = kind_count - l.k

@@ -15,9 +15,6 @@ kind_within c = tallying_kind c.loop-v.invariant c.requires.kind_value.0 (search
 pub loop-v-init : goal.loop-v-init
 loop-v-init c = tallying_none _ _ _ (search rules)
 
-pub overflow_cast-k : goal.overflow_cast-k
-overflow_cast-k c = omega (arith, c.type_inv.kind c.loop-v.v)
-
 pub overflow_cast-sums : goal.overflow_cast-sums
 overflow_cast-sums c = omega (arith, c.type_inv.weight c.loop-v.v)
 

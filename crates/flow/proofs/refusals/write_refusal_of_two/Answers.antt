@@ -1,6 +1,0 @@
--- `refusals::write_refusal_of_two` meets its contract: the line is printed at the buffer's start where it fits.
--- Assumes nothing.
-use Rattle.flow.proofs.refusals.write_refusal_of_two.Goals as goal
-
-pub returns : goal.returns
-returns c = c.print_line.ensures.answers
