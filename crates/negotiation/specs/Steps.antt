@@ -1,6 +1,7 @@
 -- What the private functions of the router do to its lists. Only their contracts cite this file: no caller has to believe it.
 -- Assumes nothing.
-use Rattle.std.specs.Prelude.{Option, Some, None, Result, Ok, Err, Bool, true, not, List, [], ◌∷◌, ◌++◌, ◌≡◌, ℕ, ◌+◌, ◌*◌, ◌-◌, ◌^◌, ◌≤◌, ◌<◌, eqb, ltb, length, get_or}
+use Rattle.std.specs.Prelude.{Option, Some, None, Result, Ok, Err}
+use Rattle.std.specs.Prelude.{Bool, true, not, List, [], ◌∷◌, ◌++◌, ◌≡◌, ℕ, ◌+◌, ◌*◌, ◌-◌, ◌^◌, ◌≤◌, ◌<◌, eqb, ltb, length, get_or}
 use Rattle.std.specs.Prelude.{take, drop, set}
 use Rattle.std.proofs.Math.Seq.{slice}
 use Rattle.price.specs.Test.{choose, both, either}
@@ -223,7 +224,8 @@ pub record TurnLogged (t : Turn) (expanded : ℕ) (tariff : Tariff) (net : ℕ) 
   pub tariff_is : tariff' ≡ logged_tariff tariff (6 + length path) expanded
 
 -- what a turn did, by cases
-abbrev pub TurnDone : (r : Result (Option Tariff) NoRoom) (t : Turn) (expanded : ℕ) (tariff : Tariff) (net : ℕ) (sinks log marks log' marks' : List ℕ) → Type 0
+abbrev pub TurnDone :
+    (r : Result (Option Tariff) NoRoom) (t : Turn) (expanded : ℕ) (tariff : Tariff) (net : ℕ) (sinks log marks log' marks' : List ℕ) → Type 0
 TurnDone (Ok None) t expanded tariff net sinks log marks log' marks' = Skipped t log marks log' marks'
 TurnDone (Err full) t expanded tariff net sinks log marks log' marks' = Overflows t tariff log log'
 TurnDone (Ok (Some tariff')) t expanded tariff net sinks log marks log' marks' =

@@ -1,7 +1,8 @@
 -- What the private functions that take up a lent log leave: tariff and lists over the progress that the replay has reached. It is no value
 -- of the code, nor is the whole job within an iteration. Only their contracts cite this file: no caller has to believe it.
 -- Assumes nothing.
-use Rattle.std.specs.Prelude.{Option, Some, None, Result, Ok, Err, Bool, true, List, [], ◌∷◌, ◌++◌, ◌≡◌, ℕ, ◌+◌, ◌-◌, ◌≤◌, ◌<◌, eqb, leb, ltb, length, get_or}
+use Rattle.std.specs.Prelude.{Option, Some, None, Result, Ok, Err}
+use Rattle.std.specs.Prelude.{Bool, true, List, [], ◌∷◌, ◌++◌, ◌≡◌, ℕ, ◌+◌, ◌-◌, ◌≤◌, ◌<◌, eqb, leb, ltb, length, get_or}
 use Rattle.std.proofs.Math.Seq.{slice}
 use Rattle.price.specs.Test.{choose, both, either}
 use Rattle.price.specs.Lists.{has, up_to}
