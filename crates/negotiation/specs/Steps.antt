@@ -8,7 +8,7 @@ use Rattle.price.specs.Test.{choose, both, either}
 use Rattle.price.specs.Lists.{every, has}
 use Rattle.price.specs.Bounds.{factor_most}
 use Rattle.search.specs.Block as block
-use Rattle.search.specs.Block.{Block, graph_of}
+use Rattle.search.specs.Block.{Block}
 use Rattle.search.specs.Tables.{Sound}
 use Rattle.search.specs.Turn.{Congestion, price_at, Turn, joins, stuck}
 use Rattle.search.specs.Aimed.{weight_at, expanded}
@@ -18,11 +18,9 @@ use Rattle.search.specs.Priceable.{Weighable}
 use Rattle.search.specs.declared.Joins.{Joins}
 use Rattle.search.specs.declared.Back.{Back}
 use Rattle.search.specs.Lent.{back_in}
-use Rattle.job.specs.Job.{Job, nets, job_of}
-use Rattle.negotiation.specs.Routable.{Routable}
+use Rattle.job.specs.Job.{Job, nets}
 use Rattle.negotiation.specs.Outcome.{unreachable_net, unreachable_place}
 use Rattle.negotiation.specs.TariffSteps.{logged_tariff}
-use Rattle.job.specs.declared.Terms.{Terms}
 use Rattle.negotiation.specs.declared.tariff.Tariff.{Tariff}
 use Rattle.negotiation.specs.declared.turns.NoRoom.{NoRoom}
 use Rattle.negotiation.specs.declared.reach.Missing.{Missing}

@@ -11,7 +11,7 @@ use Rattle.search.specs.Block as block
 use Rattle.search.specs.Distance.{tree_has}
 use Rattle.search.specs.Turn.{Congestion, weighed_congestion, price_at, turn}
 use Rattle.search.specs.Replies.{sink_list_sound}
-use Rattle.job.specs.Job.{Job, job_of, nodes, nets, source, net_sinks}
+use Rattle.job.specs.Job.{Job, nodes, nets, source, net_sinks}
 use Rattle.negotiation.specs.Routable.{Routable}
 use Rattle.negotiation.specs.Records.{Record, encode, path_nodes}
 use Rattle.negotiation.specs.Order.{sinks_tried, weighting_due}
@@ -25,7 +25,6 @@ use Rattle.negotiation.specs.ResumeSteps.{RecordReady, named_cost, turn_passes, 
 use Rattle.negotiation.specs.Steps.{TurnReady}
 use Rattle.negotiation.specs.Kept.{Kept, Tallied, CanGoOn, Ready}
 use Rattle.negotiation.specs.Runs.{Ran}
-use Rattle.job.specs.declared.Terms.{Terms}
 use Rattle.negotiation.specs.declared.tariff.Tariff.{Tariff}
 use Rattle.negotiation.specs.declared.take_up.Stopped.{Stopped}
 use Rattle.negotiation.specs.declared.take_up.Stopped.TheVariants.{Off, Ends, NotCheapest}
