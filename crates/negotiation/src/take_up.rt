@@ -2,7 +2,6 @@
 // each turn is held against the search too.
 ghost use Rattle.std.specs.Prelude.{◌≡◌, ℕ, ◌+◌, ◌*◌, ◌≤◌, ◌<◌, leb, length, drop};
 ghost use Rattle.price.specs.Test.{both};
-ghost use Rattle.search.specs.Lent.{block_in};
 ghost use Rattle.job.specs.Job.{nodes};
 ghost use Rattle.job.specs.Lent.{job_in};
 ghost use Rattle.negotiation.specs.Routable.{Routable};
@@ -131,15 +130,10 @@ fn follow_tried(
     log: &[u32],
 ) -> Result<usize, Stopped>
     requires begun { 1 ≤ tariff.iteration }
-    requires ready { let j = job.now in
-        TryReady (block_in j.block) j.sink.now j.delay.now j.criticality.now j.terms.timed from to tariff history.now users.now
-        in_tree.old work.old log.now }
-    ensures value { let j = job.now in
-        let ws = drop tariff.words log.now in
-        let passes = tried_passes (block_in j.block) j.sink.now j.delay.now j.criticality.now j.terms.timed from to tariff net
-        history.now users.now in_tree.old ws in
-        let least = tried_least (block_in j.block) j.sink.now j.delay.now j.criticality.now j.terms.timed from to tariff walk.audit
-        history.now users.now in_tree.old in
+    requires ready { TryReady job.now from to tariff history.now users.now in_tree.old work.old log.now }
+    ensures value { let ws = drop tariff.words log.now in
+        let passes = tried_passes job.now from to tariff net history.now users.now in_tree.old ws in
+        let least = tried_least job.now from to tariff walk.audit history.now users.now in_tree.old in
         result ≡ tried_as tariff walk (leb (length log.now) tariff.words) passes ws least }
     ensures stored { let ws = drop tariff.words log.now in
         ((count : ℕ) → result ≡ Ok count → Stored 1 (record_path ws) in_tree.old in_tree.new) }
@@ -180,14 +174,12 @@ fn follow_net(
     work: &mut [u64],
     log: &[u32],
 ) -> Result<Tariff, Stopped>
-    requires { let j = job.now in
-        (0 < turns
-        → SomeNet (job_in j) j.delay.now j.criticality.now j.terms.timed from to net turns begun history.now users.now
-        in_tree.old log.now × (8 * length j.block.kind.now ≤ length work.old)) }
+    requires { 0 < turns
+        → SomeNet (job_in job.now) from to net turns begun history.now users.now in_tree.old log.now
+        × (8 * length job.now.block.kind.now ≤ length work.old) }
     ensures value { turns ≡ 0 → (result ≡ Ok begun) × (in_tree.new ≡ in_tree.old) }
-    ensures net_answered { let j = job.now in
-        NetAnswered walk (job_in j) j.delay.now j.criticality.now j.terms.timed from to net turns begun history.now
-        users.now in_tree.old log.now result in_tree.new }
+    ensures net_answered { NetAnswered walk (job_in job.now) from to net turns begun history.now users.now in_tree.old log.now
+        result in_tree.new }
     ensures same_from { SameFrom (8 * length job.now.block.kind.now) work.old work.new }
 {
     if turns == 0 {

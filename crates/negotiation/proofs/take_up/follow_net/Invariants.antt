@@ -5,21 +5,18 @@ use mathlib.Core.List.{List}
 use mathlib.Core.Path.{◌≡◌}
 use Prim.Native.Nat.{ℕ, ◌-◌, ◌*◌}
 use lib.ListN.{length, take, drop}
-use Rattle.job.specs.Job.{job_of}
+use Rattle.job.specs.Lent.{job_in}
 use Rattle.negotiation.specs.Machine.{Progress}
 use Rattle.negotiation.specs.Flood.{FirstUnmarked}
 use Rattle.negotiation.specs.Steps.{SameFrom}
 use Rattle.negotiation.specs.TakeSteps.{NetOpens}
-use Rattle.job.specs.declared.Terms.{Terms}
 use Rattle.negotiation.proofs.take_up.TakeTurnLaws.{Following}
 use Rattle.negotiation.proofs.take_up.follow_net.Given as goal
 
 abbrev pub invariant-loop-place : goal.invariant-loop-place
 invariant-loop-place l =
-    ((sources first_sinks : List ℕ) (terms : Terms) (p : Progress)
-    → NetOpens (job_of l.job.block.kind.now l.job.block.capacity.now l.job.block.first_edge.now l.job.block.edge_target.now sources first_sinks l.job.sink.now l.job.delay.now l.job.criticality.now terms) p l.net l.job.delay.now l.job.criticality.now l.job.terms.timed l.from l.to l.turns l.initial.tariff l.history
-    l.users l.initial.in_tree l.log
-    → Following l.walk.audit (job_of l.job.block.kind.now l.job.block.capacity.now l.job.block.first_edge.now l.job.block.edge_target.now sources first_sinks l.job.sink.now l.job.delay.now l.job.criticality.now terms) p l.net l.left l.tariff l.in_tree l.log)
+    ((p : Progress) → NetOpens (job_in l.job) p l.net l.from l.to l.turns l.initial.tariff l.history l.users l.initial.in_tree l.log
+    → Following l.walk.audit (job_in l.job) p l.net l.left l.tariff l.in_tree l.log)
     × FirstUnmarked l.in_tree (take (l.to - l.from) (drop l.from l.job.sink.now)) 0 l.place
     × (length l.in_tree ≡ length l.initial.in_tree)
     × (l.tariff.expanded ≡ l.initial.tariff.expanded)

@@ -5,27 +5,23 @@ use mathlib.Core.Path.{◌≡◌, refl}
 use Prim.Native.Nat.{ℕ, ◌+◌, ◌*◌}
 use native.Mathlib.Omega.{arith}
 use lib.ListN.{length, get_or}
-use Rattle.job.specs.Job.{Job, job_of}
+use Rattle.job.specs.Job.{Job}
+use Rattle.job.specs.Lent.{job_in}
 use Rattle.negotiation.specs.Routable.{Routable}
 use Rattle.negotiation.specs.Steps.{SameFrom}
-use Rattle.negotiation.specs.TakeSteps.{NetTables, NetsOpen, NetsOn}
-use Rattle.job.specs.declared.Terms.{Terms}
+use Rattle.negotiation.specs.TakeSteps.{NetPlaces, NetsOpen, NetsOn}
 use Rattle.negotiation.proofs.KeepTurn.{same_twice}
 use Rattle.negotiation.proofs.take_up.JudgedLaws.{sent_on}
-use Rattle.negotiation.proofs.take_up.TakeNetLaws.{net_tables, nets-start, net-ready, net_asks, nets-stopped, end-ready, net-next, nets-all}
+use Rattle.negotiation.proofs.take_up.TakeNetLaws.{nets-start, net-ready, net_asks, nets-stopped, end-ready, net-next, nets-all}
 use Rattle.negotiation.proofs.take_up.follow_nets.Goals.{After-follow_net, At-loop-net}
 use Rattle.negotiation.proofs.take_up.follow_nets.Goals as goal
 
 module _ (c : At-loop-net) where
-  abbrev job_with_lem : Terms → Job
-  job_with_lem terms =
-      job_of c.args.job.now.block.kind.now c.args.job.now.block.capacity.now c.args.job.now.block.first_edge.now c.args.job.now.block.edge_target.now c.args.job.now.source.now c.args.job.now.first_sink.now
-      c.args.job.now.sink.now c.args.job.now.delay.now c.args.job.now.criticality.now terms
-
-  -- the terms and the progress that are asked for
+  -- the job in the tables that are lent
   abbrev job : Job
-  job = job_with_lem c.requires.0.terms
+  job = job_in c.args.job.now
 
+  -- the progress that is asked for
   opened :
       NetsOpen job c.requires.0.progress c.args.begun c.args.history.now c.args.users.now c.args.in_tree.now c.args.tree_from.now
       c.args.tree_to.now c.args.due.now c.args.log.now
@@ -34,18 +30,15 @@ module _ (c : At-loop-net) where
   routable : Routable job
   routable = opened.routable
 
-  -- the tables of a net
-  tables :
-      (terms : Terms) → c.args.job.now.terms.timed ≡ terms.timed → (i : ℕ)
-      → NetTables (job_with_lem terms) i c.args.job.now.delay.now c.args.job.now.criticality.now c.args.job.now.terms.timed (get_or c.args.job.now.first_sink.now i 0)
-      (get_or c.args.job.now.first_sink.now (i + 1) 0)
-  tables terms w i = net_tables _ _ _ _ _ _ _ _ _ terms i w
+  -- where a net's sinks stand
+  places : (i : ℕ) → NetPlaces job i (get_or c.args.job.now.first_sink.now i 0) (get_or c.args.job.now.first_sink.now (i + 1) 0)
+  places i = record { from_is = refl; to_is = refl }
 
   -- the nets so far, of what is asked for
   so_far :
       NetsOn c.args.walk.audit job c.requires.0.progress c.loop-net.net c.loop-net.tariff c.args.history.now c.loop-net.users c.loop-net.in_tree
       c.loop-net.tree_from c.loop-net.tree_to c.args.log.now
-  so_far = c.loop-net.invariant.0 _ _ c.requires.0.timed_is opened
+  so_far = c.loop-net.invariant.0 _ opened
 
 module _ (c : After-follow_net) where
   -- the work memory that they leave
@@ -54,7 +47,7 @@ module _ (c : After-follow_net) where
   work-same = same_twice c.loop-net.invariant.2 c.follow_net.ensures.same_from
 
 pub loop-net-init : goal.loop-net-init
-loop-net-init c = ((λ terms p w o. nets-start _ _ o), omega arith, record { long = refl; high = λ k l. refl })
+loop-net-init c = ((λ p o. nets-start _ _ o), omega arith, record { long = refl; high = λ k l. refl })
 
 pub bounds-first_sink-net : goal.bounds-first_sink-net
 bounds-first_sink-net c = let l = (routable (goal.at.bounds-first_sink-net c).At-loop-net).first_sinks-long in let h = c.loop-net-test.true in omega arith
@@ -74,13 +67,10 @@ follow_net-requires c =
     let same = c.loop-net.invariant.2.long in
     λ some. (
       record {
-        sources = c.args.job.now.source.now;
-        first_sinks = c.args.job.now.first_sink.now;
-        terms = c.requires.0.terms;
         progress = (so_far (goal.at.follow_net-requires c).At-loop-net).progress;
         opens =
             net_asks _ o.routable o.due-is (so_far (goal.at.follow_net-requires c).At-loop-net) c.loop-net-test.true c.begin_net-turns.ensures.idle c.begin_net-turns.ensures.begun
-            (tables (goal.at.follow_net-requires c).At-loop-net _ c.requires.0.timed_is _) some;
+            (places (goal.at.follow_net-requires c).At-loop-net _) some;
       },
       omega arith,
     )
@@ -88,10 +78,10 @@ follow_net-requires c =
 pub returns-in_err-tariff : goal.returns-in_err-tariff
 returns-in_err-tariff c = record {
   same_from = work-same (goal.at.returns-in_err-tariff c).After-follow_net;
-  nets_answered = λ terms p w o.
+  nets_answered = λ p o.
       rw (sent_on c.from_residual.result c.from_residual.ensures.1)
-      (nets-stopped _ o.routable o.due-is (c.loop-net.invariant.0 _ _ w o) c.loop-net-test.true c.begin_net-turns.ensures.idle c.begin_net-turns.ensures.begun
-      (tables (goal.at.returns-in_err-tariff c).At-loop-net terms w _) c.args.walk.over c.follow_net.ensures.value (λ q. c.follow_net.ensures.net_answered _ _ _ _ q)
+      (nets-stopped _ o.routable o.due-is (c.loop-net.invariant.0 _ o) c.loop-net-test.true c.begin_net-turns.ensures.idle c.begin_net-turns.ensures.begun
+      (places (goal.at.returns-in_err-tariff c).At-loop-net _) c.args.walk.over c.follow_net.ensures.value (λ q. c.follow_net.ensures.net_answered _ q)
       c.in_err-tariff.was _ _ _ _ _);
 }
 
@@ -99,20 +89,20 @@ pub end_net-requires : goal.end_net-requires
 end_net-requires c =
     let o = opened (goal.at.end_net-requires c).At-loop-net in
     end-ready _ o.routable o.due-is (so_far (goal.at.end_net-requires c).At-loop-net) c.loop-net-test.true c.begin_net-turns.ensures.idle c.begin_net-turns.ensures.begun
-    (tables (goal.at.end_net-requires c).At-loop-net _ c.requires.0.timed_is _) c.args.walk.over c.follow_net.ensures.value
-    (λ q. c.follow_net.ensures.net_answered _ _ _ _ q) c.in_ok-tariff.was
+    (places (goal.at.end_net-requires c).At-loop-net _) c.args.walk.over c.follow_net.ensures.value
+    (λ q. c.follow_net.ensures.net_answered _ q) c.in_ok-tariff.was
 
 pub loop-net-preserved : goal.loop-net-preserved
 loop-net-preserved c =
     let few = c.loop-net-test.true in (
-      (λ terms p w o.
-          net-next _ o.routable o.due-is (c.loop-net.invariant.0 _ _ w o) c.loop-net-test.true c.begin_net-turns.ensures.idle c.begin_net-turns.ensures.begun
-          (tables (goal.at.loop-net-preserved c).At-loop-net terms w _) c.args.walk.over c.follow_net.ensures.value
-          (λ q. c.follow_net.ensures.net_answered _ _ _ _ q) c.in_ok-tariff.was
+      (λ p o.
+          net-next _ o.routable o.due-is (c.loop-net.invariant.0 _ o) c.loop-net-test.true c.begin_net-turns.ensures.idle c.begin_net-turns.ensures.begun
+          (places (goal.at.loop-net-preserved c).At-loop-net _) c.args.walk.over c.follow_net.ensures.value
+          (λ q. c.follow_net.ensures.net_answered _ q) c.in_ok-tariff.was
           c.end_net.ensures.passed c.end_net.ensures.ended),
       omega arith,
       work-same (goal.at.loop-net-preserved c).After-follow_net,
     )
 
 pub returns : goal.returns
-returns c = record { same_from = c.loop-net.invariant.2; nets_answered = λ terms p w o. nets-all _ (c.loop-net.invariant.0 _ _ w o) c.loop-net.invariant.1 c.loop-net-test.false }
+returns c = record { same_from = c.loop-net.invariant.2; nets_answered = λ p o. nets-all _ (c.loop-net.invariant.0 _ o) c.loop-net.invariant.1 c.loop-net-test.false }

@@ -4,17 +4,15 @@
 use mathlib.Core.Path.{◌≡◌}
 use Prim.Native.Nat.{◌-◌, ◌*◌, ◌≤◌}
 use lib.ListN.{length}
-use Rattle.job.specs.Job.{job_of}
+use Rattle.job.specs.Lent.{job_in}
 use Rattle.negotiation.specs.Machine.{Progress}
 use Rattle.negotiation.specs.Steps.{SameFrom}
 use Rattle.negotiation.specs.TakeSteps.{NetsOpen, NetsOn}
-use Rattle.job.specs.declared.Terms.{Terms}
 use Rattle.negotiation.proofs.take_up.follow_nets.Given as goal
 
 abbrev pub invariant-loop-net : goal.invariant-loop-net
 invariant-loop-net l =
-    ((terms : Terms) (p : Progress) → l.job.terms.timed ≡ terms.timed
-    → NetsOpen (job_of l.job.block.kind.now l.job.block.capacity.now l.job.block.first_edge.now l.job.block.edge_target.now l.job.source.now l.job.first_sink.now l.job.sink.now l.job.delay.now l.job.criticality.now terms) p l.initial.tariff l.history l.initial.users l.initial.in_tree l.initial.tree_from l.initial.tree_to l.due l.log
-    → NetsOn l.walk.audit (job_of l.job.block.kind.now l.job.block.capacity.now l.job.block.first_edge.now l.job.block.edge_target.now l.job.source.now l.job.first_sink.now l.job.sink.now l.job.delay.now l.job.criticality.now terms) p l.net l.tariff l.history l.users l.in_tree l.tree_from l.tree_to l.log)
+    ((p : Progress) → NetsOpen (job_in l.job) p l.initial.tariff l.history l.initial.users l.initial.in_tree l.initial.tree_from l.initial.tree_to l.due l.log
+    → NetsOn l.walk.audit (job_in l.job) p l.net l.tariff l.history l.users l.in_tree l.tree_from l.tree_to l.log)
     × (l.net ≤ length l.job.source.now)
     × SameFrom (8 * length l.job.block.kind.now) l.initial.work l.work

@@ -33,7 +33,7 @@ follow_nets-requires c =
 pub returns-in_err-t : goal.returns-in_err-t
 returns-in_err-t c =
     let opened = nets_open _ c.requires.0 c.loop-more.invariant.0 c.mark_due.ensures in
-    let came = c.follow_nets.ensures.nets_answered _ _ refl opened in
+    let came = c.follow_nets.ensures.nets_answered _ opened in
     record {
       taken =
           rw (sent_on c.from_residual.result c.from_residual.ensures.1)
@@ -45,7 +45,7 @@ returns-in_err-t c =
 pub over_count-over-requires : goal.over_count-over-requires
 over_count-over-requires c =
     let opened = nets_open _ c.requires.0 c.loop-more.invariant.0 c.mark_due.ensures in
-    let came = c.follow_nets.ensures.nets_answered _ _ refl opened in
+    let came = c.follow_nets.ensures.nets_answered _ opened in
     let all_on = nets-on _ _ _ _ _ _ _ _ _ came c.in_ok-t.was in
     let long = capacities_long _ c.requires.0 in
     (le_of_eq (long ∙ sym (nets-long _ all_on).0), le_trans (le_of_eq long) (kinds-few _ c.requires.0.block-sound.kinds_sound_lem))
@@ -54,7 +54,7 @@ over_count-over-requires c =
 pub returns-in_err-next : goal.returns-in_err-next
 returns-in_err-next c =
     let opened = nets_open _ c.requires.0 c.loop-more.invariant.0 c.mark_due.ensures in
-    let came = c.follow_nets.ensures.nets_answered _ _ refl opened in
+    let came = c.follow_nets.ensures.nets_answered _ opened in
     let all_on = nets-on _ _ _ _ _ _ _ _ _ came c.in_ok-t.was in
     let counts = over_counted _ c.requires.0 _ c.over_count-over.ensures in
     record {
@@ -68,7 +68,7 @@ returns-in_err-next c =
 pub grow_histories-requires-clause-capacity_len : goal.grow_histories-requires-clause-capacity_len
 grow_histories-requires-clause-capacity_len c =
     let opened = nets_open _ c.requires.0 c.loop-more.invariant.0 c.mark_due.ensures in
-    let came = c.follow_nets.ensures.nets_answered _ _ refl opened in
+    let came = c.follow_nets.ensures.nets_answered _ opened in
     let all_on = nets-on _ _ _ _ _ _ _ _ _ came c.in_ok-t.was in
     let long = capacities_long _ c.requires.0 in
     (long ∙ sym (nets-long _ all_on).0, long ∙ sym (taking-long _ c.loop-more.invariant.0).0)
@@ -81,7 +81,7 @@ grow_histories-requires-clause-by_index c =
 pub iteration_started-tariff-requires : goal.iteration_started-tariff-requires
 iteration_started-tariff-requires c =
     let opened = nets_open _ c.requires.0 c.loop-more.invariant.0 c.mark_due.ensures in
-    let came = c.follow_nets.ensures.nets_answered _ _ refl opened in
+    let came = c.follow_nets.ensures.nets_answered _ opened in
     let all_on = nets-on _ _ _ _ _ _ _ _ _ came c.in_ok-t.was in
     let counts = over_counted _ c.requires.0 _ c.over_count-over.ensures in
     let goes = sym c.in_ok-next.was ∙ c.whole_iteration.ensures in
@@ -94,7 +94,7 @@ iteration_started-tariff-requires c =
 pub loop-more-smaller : goal.loop-more-smaller
 loop-more-smaller c =
     let opened = nets_open _ c.requires.0 c.loop-more.invariant.0 c.mark_due.ensures in
-    let came = c.follow_nets.ensures.nets_answered _ _ refl opened in
+    let came = c.follow_nets.ensures.nets_answered _ opened in
     let all_on = nets-on _ _ _ _ _ _ _ _ _ came c.in_ok-t.was in
     let counts = over_counted _ c.requires.0 _ c.over_count-over.ensures in
     let goes = sym c.in_ok-next.was ∙ c.whole_iteration.ensures in
@@ -108,7 +108,7 @@ loop-more-smaller c =
 pub loop-more-preserved : goal.loop-more-preserved
 loop-more-preserved c =
     let opened = nets_open _ c.requires.0 c.loop-more.invariant.0 c.mark_due.ensures in
-    let came = c.follow_nets.ensures.nets_answered _ _ refl opened in
+    let came = c.follow_nets.ensures.nets_answered _ opened in
     let all_on = nets-on _ _ _ _ _ _ _ _ _ came c.in_ok-t.was in
     let counts = over_counted _ c.requires.0 _ c.over_count-over.ensures in
     let goes = sym c.in_ok-next.was ∙ c.whole_iteration.ensures in
