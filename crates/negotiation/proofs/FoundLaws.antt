@@ -22,11 +22,15 @@ use Rattle.search.specs.Paths.{Fair}
 use Rattle.search.specs.Turn.{Congestion, price_at, Turn, joins, stuck, nearest_distance, turn}
 use Rattle.search.specs.Replies.{cleared, refusal_of, too_many, bad_criticality, sink_list_sound, faulty_with_delays, faulty_with_sinks, PathReply, turn_numbers, turn_path, read_off, path_due, path_reply, path_reply_of}
 use Rattle.search.specs.Distance.{far}
-use Rattle.search.specs.Aimed.{weight_at, expands, expanded_by}
+use Rattle.search.specs.Aimed.{weight_at, expands, expanded, expanded_by}
 use Rattle.search.specs.AimedReplies.{AimedPathReply, aimed_path_reply, aimed_path_reply_of}
-use Rattle.search.specs.declared.AimedPath.{AimedPath}
-use Rattle.search.specs.declared.PathAnswer.{PathAnswer}
-use Rattle.search.specs.declared.PathAnswer.TheVariants.{Joins, Stuck, BadTable, ShortWork, BadNumber, TooLarge}
+use Rattle.std.specs.Prelude.{Option, Some, None, Result, Ok, Err}
+use Rattle.search.specs.Lent.{back_in}
+use Rattle.search.specs.declared.Back.{Back}
+use Rattle.search.specs.declared.Joins.{Joins}
+use Rattle.search.specs.declared.AimedTurn.{AimedTurn}
+use Rattle.search.specs.declared.Refusal.{Refusal}
+use Rattle.search.specs.declared.Refusal.TheVariants.{BadTable, ShortWork, BadNumber, TooLarge}
 use Rattle.search.proofs.BlockLaws.{faulty_of}
 use Rattle.search.proofs.PriceableLaws.{bad_nowhere, sinks-nodes, ready-fair}
 use Rattle.search.proofs.EdgeLaws.{Shaped, shaped}
@@ -76,30 +80,33 @@ module _ (n k : ℕ) (work : List ℕ) (most : k ≤ 8 * n) (enough : 8 * n ≤ 
       let z : ◌≡◌ {A = ℕ} 0 1 = cc in
       absurd (omega arith)
 
-  found-is : (r : PathAnswer) (t : Turn) {work' : List ℕ} → length (turn_path t) ≤ k → path_reply_of r work' ≡ padded_reply t → PathFound n t work r work'
-  found-is (Joins place cost count) (joins p c path) {work'} short e =
-      let numbers : (place ∷ cost ∷ count ∷ []) ≡ (p ∷ c ∷ length path ∷ []) = ap (λ (x : PathReply). x.joined) e in
-      let place_is : place ≡ p = cc in
-      let cost_is_lem : cost ≡ c = cc in
-      let count-is : count ≡ length path = cc in
+  found-is : (r : Option Joins) (t : Turn) {work' : List ℕ} → length (turn_path t) ≤ k → path_reply_of (Ok r) work' ≡ padded_reply t → PathFound n t work r work'
+  found-is (Some j) (joins p c path) {work'} short e =
+      let numbers : (j.place ∷ j.cost ∷ j.length ∷ []) ≡ (p ∷ c ∷ length path ∷ []) = ap (λ (x : PathReply). x.joined) e in
+      let place_is : j.place ≡ p = cc in
+      let cost_is_lem : j.cost ≡ c = cc in
+      let count-is : j.length ≡ length path = cc in
       let left : work' ≡ padded k path work = ap (λ (x : PathReply). x.work) e in
-      let front : take count work' ≡ path = rw left (take_at path (replicate (k - length path) 0 ++ drop k work) count (sym count-is)) in
+      let front : take j.length work' ≡ path = rw left (take_at path (replicate (k - length path) 0 ++ drop k work) j.length (sym count-is)) in
       (rw (front, place_is, cost_is_lem), rw front (sym count-is), rw left (padded_rest n k path work short most enough))
-  found-is (Joins place cost count) stuck short e =
-      let numbers : (place ∷ cost ∷ count ∷ []) ≡ [] = ap (λ (x : PathReply). x.joined) e in
+  found-is (Some j) stuck short e =
+      let numbers : (j.place ∷ j.cost ∷ j.length ∷ []) ≡ [] = ap (λ (x : PathReply). x.joined) e in
       let z : ◌≡◌ {A = ℕ} 0 1 = cc in
       absurd (omega arith)
-  found-is Stuck (joins p c path) short e =
+  found-is None (joins p c path) short e =
       let numbers : [] ≡ (p ∷ c ∷ length path ∷ []) = ap (λ (x : PathReply). x.joined) e in
       let z : ◌≡◌ {A = ℕ} 0 1 = cc in
       absurd (omega arith)
-  found-is Stuck stuck {work'} short e =
+  found-is None stuck {work'} short e =
       let left : work' ≡ padded k [] work = ap (λ (x : PathReply). x.work) e in
       (refl, rw left (padded_rest n k [] work short most enough))
-  found-is (BadTable table) t short e = no_turn t refl e
-  found-is (ShortWork needed) t short e = no_turn t refl e
-  found-is (BadNumber place) t short e = no_turn t refl e
-  found-is (TooLarge count) t short e = no_turn t refl e
+
+  -- nothing is refused
+  refused-is : (e : Refusal) (t : Turn) {work' : List ℕ} → path_reply_of (Err e) work' ≡ padded_reply t → ⊥
+  refused-is (BadTable table) t e = no_turn t refl e
+  refused-is (ShortWork needed) t e = no_turn t refl e
+  refused-is (BadNumber place) t e = no_turn t refl e
+  refused-is (TooLarge count) t e = no_turn t refl e
 
 -- ---- where nothing is refused
 
@@ -193,30 +200,56 @@ module _ {b : Block} {c : Congestion} {marks work : List ℕ} (ready : TurnReady
           critical,
         )
 
+    -- the turn as a reply, by the entries that the search uses
+    abbrev turn_reply : ℕ → PathReply
+    turn_reply k = record { refusal = []; joined = turn_numbers made; work = padded k (turn_path made) work }
+
     -- the plain search's answer is the turn, and no nodes are counted
-    pub plain_found :
-        {aimed : Bool} → aimed ≡ false → (r : PathAnswer) {work' : List ℕ} → path_reply_of r work' ≡ path_reply b c marks sinks work
-        → PathFound (block.nodes b) made work r work' × (0 ≡ turn_count aimed b c marks sinks)
+    plain_is : (r : Result (Option Joins) Refusal) {work' : List ℕ} → path_reply_of r work' ≡ path_reply b c marks sinks work → path_reply_of r work' ≡ turn_reply (3 * block.nodes b)
     unfolding read_off
-    plain_found chosen r e =
+    plain_is r e = e ∙ path-turn b c marks sinks work ready.sound listed ready.enough ready.numbers ready.factor_most_lem ready.weighable
+
+    pub plain_found :
+        {aimed : Bool} → aimed ≡ false → {r : Result (Option Joins) Refusal} {found : Option Joins} → r ≡ Ok found → {work' : List ℕ}
+        → path_reply_of r work' ≡ path_reply b c marks sinks work → PathFound (block.nodes b) made work found work' × (0 ≡ turn_count aimed b c marks sinks)
+    plain_found chosen {r} {found} is {work'} e =
         let s = turn-short in (
-          found-is (block.nodes b) (3 * block.nodes b) work (omega arith) ready.enough r made (omega arith)
-              (e ∙ path-turn b c marks sinks work ready.sound listed ready.enough ready.numbers ready.factor_most_lem ready.weighable),
+          found-is (block.nodes b) (3 * block.nodes b) work (omega arith) ready.enough found made (omega arith)
+              (subst (λ (x : Result (Option Joins) Refusal). path_reply_of x work' ≡ turn_reply (3 * block.nodes b)) is (plain_is r e)),
           rw chosen,
         )
 
+    pub plain_never : {r : Result (Option Joins) Refusal} {refusal : Refusal} → r ≡ Err refusal → {work' : List ℕ} → path_reply_of r work' ≡ path_reply b c marks sinks work → ⊥
+    plain_never {r} {refusal} is {work'} e =
+        refused-is (block.nodes b) (3 * block.nodes b) work (omega arith) ready.enough refusal made
+        (subst (λ (x : Result (Option Joins) Refusal). path_reply_of x work' ≡ turn_reply (3 * block.nodes b)) is (plain_is r e))
+
     -- the other's is the same turn, with the nodes that it expanded, where it is lent the edges by their target
-    pub aimed_found :
-        {aimed : Bool} {firsts sources : List ℕ} → aimed ≡ true → BackLent aimed b firsts sources → (r : AimedPath) {work' : List ℕ}
-        → aimed_path_reply_of r work' ≡ aimed_path_reply b (graph_of b.kinds firsts sources) c marks sinks work
-        → PathFound (block.nodes b) made work r.answer work' × (r.expanded ≡ turn_count aimed b c marks sinks)
-    unfolding cleared
-    aimed_found {firsts = firsts} {sources} chosen lent r {work'} e =
-        let s = turn-short in
-        let is = e ∙ aimed_sound b.kinds b.capacities b.first_edges b.edge_targets firsts sources (lent chosen) c marks sinks work nothing_due in (
-          found-is (block.nodes b) (8 * block.nodes b) work (omega arith) ready.enough r.answer made (omega arith) (ap (λ (x : AimedPathReply). x.path) is),
-          rw chosen (ap (λ (x : AimedPathReply). x.expanded) is),
-        )
+    module _ {aimed : Bool} (back : Back) (chosen : aimed ≡ true) (lent : BackLent aimed b back) where
+      aimed_is : (r : Result AimedTurn Refusal) {work' : List ℕ} → aimed_path_reply_of r work' ≡ aimed_path_reply b (back_in b.kinds back) c marks sinks work
+          → aimed_path_reply_of r work' ≡ record { path = turn_reply (8 * block.nodes b); expanded = expanded b (price_at b c) (weight_at b c.weighting) marks sinks }
+      unfolding cleared
+      aimed_is r e =
+          e ∙ aimed_sound b.kinds b.capacities b.first_edges b.edge_targets back.first_back.now back.back_source.now (lent chosen) c marks sinks work nothing_due
+
+      pub aimed_found :
+          {r : Result AimedTurn Refusal} {found : AimedTurn} → r ≡ Ok found → {work' : List ℕ}
+          → aimed_path_reply_of r work' ≡ aimed_path_reply b (back_in b.kinds back) c marks sinks work
+          → PathFound (block.nodes b) made work found.joins work' × (found.expanded ≡ turn_count aimed b c marks sinks)
+      aimed_found {r} {found} at {work'} e =
+          let s = turn-short in
+          let is = subst (λ (x : Result AimedTurn Refusal). aimed_path_reply_of x work' ≡ record { path = turn_reply (8 * block.nodes b); expanded = expanded b (price_at b c) (weight_at b c.weighting) marks sinks }) at (aimed_is r e) in (
+            found-is (block.nodes b) (8 * block.nodes b) work (omega arith) ready.enough found.joins made (omega arith) (ap (λ (x : AimedPathReply). x.path) is),
+            rw chosen (ap (λ (x : AimedPathReply). x.expanded) is),
+          )
+
+      pub aimed_never :
+          {r : Result AimedTurn Refusal} {refusal : Refusal} → r ≡ Err refusal → {work' : List ℕ}
+          → aimed_path_reply_of r work' ≡ aimed_path_reply b (back_in b.kinds back) c marks sinks work → ⊥
+      aimed_never {r} {refusal} at {work'} e =
+          refused-is (block.nodes b) (8 * block.nodes b) work (omega arith) ready.enough refusal made
+          (ap (λ (x : AimedPathReply). x.path)
+          (subst (λ (x : Result AimedTurn Refusal). aimed_path_reply_of x work' ≡ record { path = turn_reply (8 * block.nodes b); expanded = expanded b (price_at b c) (weight_at b c.weighting) marks sinks }) at (aimed_is r e)))
 
 -- ---- what it costs
 
@@ -225,24 +258,17 @@ pub least_unasked : {asked : Bool} (n : ℕ) (t : Turn) (work : List ℕ) → as
 unfolding least_asked
 least_unasked n t work e = (rw e, record { long = refl; high = λ k l. refl })
 
-module _ {asked : Bool} (e : asked ≡ true) (n : ℕ) (t : Turn) (work work' : List ℕ) where
+module _ {asked : Bool} (e : asked ≡ true) (n : ℕ) (t : Turn) (work work' : List ℕ) {found : Option Joins} (f : PathFound n t work found work') where
   -- a sink is joined
-  pub least-joined :
-      {r : PathAnswer} {place cost count : ℕ} → r ≡ Joins place cost count → PathFound n t work r work'
-      → (cost ≡ least_asked asked t) × SameFrom (8 * n) work work'
+  pub least-joined : {j : Joins} → found ≡ Some j → (j.cost ≡ least_asked asked t) × SameFrom (8 * n) work work'
   unfolding least_asked
-  least-joined {place = place} {cost} {count} is found =
-      let f : PathFound n t work (Joins place cost count) work' = subst (λ (x : PathAnswer). PathFound n t work x work') is found in
-      (rw (e, f.0), f.2)
+  least-joined {j} is =
+      let g : PathFound n t work (Some j) work' = subst (λ (x : Option Joins). PathFound n t work x work') is f in
+      (rw (e, g.0), g.2)
 
-  -- any other answer is that none is left to be joined
-  pub least-stuck :
-      (r : PathAnswer) → ((place cost count : ℕ) → r ≡ Joins place cost count → ⊥) → PathFound n t work r work'
-      → (far ≡ least_asked asked t) × SameFrom (8 * n) work work'
+  -- or none is left to be joined
+  pub least-stuck : found ≡ None → (far ≡ least_asked asked t) × SameFrom (8 * n) work work'
   unfolding least_asked
-  least-stuck (Joins place cost count) other f = absurd (other place cost count refl)
-  least-stuck Stuck other f = (rw (e, f.0), f.1)
-  least-stuck (BadTable k) other f = absurd f
-  least-stuck (ShortWork k) other f = absurd f
-  least-stuck (BadNumber k) other f = absurd f
-  least-stuck (TooLarge k) other f = absurd f
+  least-stuck is =
+      let g : PathFound n t work None work' = subst (λ (x : Option Joins). PathFound n t work x work') is f in
+      (rw (e, g.0), g.1)

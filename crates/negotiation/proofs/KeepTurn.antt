@@ -26,7 +26,6 @@ use Rattle.search.specs.Priceable.{Weighable}
 use Rattle.search.specs.Turn.{Congestion, weighed_congestion, Turn, joins, stuck, turn, congested_at, price_at}
 use Rattle.search.proofs.BlockLaws.{kinds_some}
 use Rattle.search.proofs.PriceableLaws.{sinks-few}
-use Rattle.search.proofs.TableLaws.{sinks-all}
 use Rattle.job.specs.declared.Terms.{Terms}
 use Rattle.job.specs.Job.{Job, nodes, nets, job_of, sinks_between, net_sinks, net_criticalities}
 use Rattle.negotiation.specs.Order.{place_due, sink_due, sinks_tried, weighting_due, turn_sinks, turn_weighting, turn_congestion}
@@ -43,7 +42,7 @@ use Rattle.std.specs.Prelude.{Option, Some, None, Result, Ok, Err}
 use Rattle.negotiation.proofs.OrderLaws.{untimed-sinks, timed_sinks, weighting_timed, criticality_low, turn-nodes}
 use Rattle.negotiation.proofs.NextTriedLaws.{part_at, tried_alike, weighting_alike}
 use Rattle.negotiation.proofs.StateLaws.{nets-factor}
-use Rattle.negotiation.proofs.RoutableLaws.{sinks-searched}
+use Rattle.negotiation.proofs.RoutableLaws.{sinks_listed, sinks-searched}
 use Rattle.negotiation.proofs.RecordLaws.{records-few}
 use Rattle.negotiation.proofs.NetLaws.{StateReady, state-ready, weighed-bounds, tree-more}
 use Rattle.negotiation.proofs.KeepLaws.{start_of, reached, Under, AtTurn, AtIdle, AtTurns}
@@ -98,7 +97,7 @@ module _ (j : Job) (sound : Routable j) (i : ℕ) (hi : i < nets j) (tree : List
       (λ w.
       rw (timed_sinks j i tree w) (le_trans (due-short (λ s. has s tree) (net_sinks j i) (net_criticalities j i)) (omega arith)))
       (λ w. rw (untimed-sinks j i tree w) (sinks-few (nodes j) (net_sinks j i) (sinks-searched j sound i hi))) in
-      sinks-all (nodes j) (turn_sinks j i tree) (length (turn_sinks j i tree)) few (omega arith) (turn-nodes j sound i hi tree)
+      sinks_listed (nodes j) (turn_sinks j i tree) few (turn-nodes j sound i hi tree)
 
   module _ {delays cs : List ℕ} (lent : Lent j delays cs) {marks : List ℕ} (marked : marks ≡ marks_of j tree) where
     -- a sink's mark says whether the tree has it

@@ -1,6 +1,7 @@
 -- What of a sound job routing rests on.
 -- Assumes nothing.
 use mathlib.Core.Bool.{true, false}
+use mathlib.Core.List.{List}
 use mathlib.Core.Path.{◌≡◌}
 use Prim.Native.Nat.{ℕ, ◌+◌, ◌≤◌, ◌<◌}
 use native.Mathlib.Nat.{le_trans}
@@ -8,22 +9,29 @@ use native.Mathlib.Omega.{arith}
 use lib.Dec.{leb, ltb, eqb}
 use lib.ListN.{length, get_or}
 use lib.Seq.{length-slice}
-use borrow.Author.Tests.{le-leb, leb-true, ltb-true, eqb-true, not-true}
+use borrow.Author.Tests.{le-leb, lt-ltb, leb-true, ltb-true, eqb-true, not-true}
 use Rattle.price.specs.Bounds.{limit_most, delay_most}
 use Rattle.price.specs.Lists.{every, has, distinct}
-use Rattle.price.proofs.TestLaws.{both_left, both_right}
-use Rattle.price.proofs.ListLaws.{every-at}
+use Rattle.price.proofs.TestLaws.{both_left, both_right, both_true}
+use Rattle.price.proofs.ListLaws.{every-at, every-all}
 use Rattle.price.specs.Tuning.{tuning_sound}
 use Rattle.price.proofs.TuningLaws.{TuningWithin, tuning_within_lem}
 use Rattle.search.specs.Replies as search
+use Rattle.search.specs.Replies.{sinks_most}
 use Rattle.search.specs.Tables.{delays_sound}
-use Rattle.search.proofs.TableLaws.{sinks-all}
 use Rattle.job.specs.Job.{Job, nodes, nets, source, net_sinks}
 use Rattle.job.specs.Tables.{net_sound, sinks_sound, limit_sound, rule_sound, terms_sound, nets_most, exceeds, SoundJob}
 use Rattle.negotiation.specs.Routable.{Routable, Timing}
 use Rattle.negotiation.specs.Machine.{has_sinks}
 use Rattle.job.proofs.JobLaws.{firsts-long, firsts-most, firsts-order, limit_least, net-rule, source-below, sources-few, sources_some}
 use Rattle.job.proofs.JobLaws.{criticalities-long, criticality_most_lem, timed_nodes, timed_limit}
+
+-- a list of few enough sinks, each a node, is one that the search takes
+pub sinks_listed : (n : ℕ) (ss : List ℕ) → length ss ≤ sinks_most → ((k : ℕ) → k < length ss → get_or ss k 0 < n) → search.sink_list_sound n ss ≡ true
+unfolding search.sink_list_sound
+sinks_listed n ss few all =
+    both_true (le-leb (length ss) sinks_most few) (every-all (λ s. ltb s n) ss (λ k l. lt-ltb (get_or ss k 0) n (all k l)))
+
 
 module _ (j : Job) (s : SoundJob j) where
   pub nets_some : 1 ≤ nets j
@@ -137,4 +145,4 @@ module _ (j : Job) (r : Routable j) (i : ℕ) (h : i < nets j) where
   -- as the search asks it of a list of sinks
   pub sinks-searched : search.sink_list_sound (nodes j) (net_sinks j i) ≡ true
   sinks-searched =
-      sinks-all _ _ (length (net_sinks j i)) (le_trans sinks-within r.sinks-few) (omega arith) (r.sink-node i h)
+      sinks_listed _ _ (le_trans sinks-within r.sinks-few) (r.sink-node i h)

@@ -15,7 +15,10 @@ use job::{JobTables, Terms};
 fn all_due(terms: Terms, iteration: u32) -> bool
     ensures { result ≡ all_due terms iteration }
 {
-    terms.rule == 1 || iteration <= terms.until
+    if terms.rule == 1 {
+        return true;
+    }
+    iteration <= terms.until
 }
 
 // One of the nodes in the log from `from` to below `to` has more users than its capacity.

@@ -82,7 +82,13 @@ fn step_passes(tables: &Tables, goals: &[u8], in_tree: &[u8], u: usize, v: usize
         (length goals.now ≡ nodes) × (length in_tree.now ≡ nodes) }
     ensures { result ≡ step_passes (graph_in tables.now) goals.now in_tree.now u v last }
 {
-    has_edge(tables, u, v) && in_tree[v] == 0 && goals[v] == last
+    if !has_edge(tables, u, v) {
+        return false;
+    }
+    if in_tree[v] != 0 {
+        return false;
+    }
+    goals[v] == last
 }
 
 // The cost of the path in the log from `from` to below `to`, whose nodes are marked. None where it strays: its first node alone has a mark,
@@ -129,7 +135,10 @@ fn cost_is(log: &[u32], at: usize, cost: u64) -> bool
     requires { at + 6 ≤ length log.now }
     ensures { result ≡ cost_is (drop at log.now) (cost ∷ []) }
 {
-    log[at + 3] as u64 == cost % 4294967296 && log[at + 4] as u64 == cost / 4294967296
+    if log[at + 3] as u64 != cost % 4294967296 {
+        return false;
+    }
+    log[at + 4] as u64 == cost / 4294967296
 }
 
 // The record at `at` is whole, of this iteration and net, and its path, of two to `nodes` nodes, ends at its sink.
@@ -141,12 +150,22 @@ fn frame_follows(log: &[u32], at: usize, iteration: u32, net: u32, nodes: usize)
         return false;
     }
     let count = log[at + 5] as usize;
-    2 <= count
-        && count <= nodes
-        && 6 + count <= log.len() - at
-        && log[at] == iteration
-        && log[at + 1] == net
-        && log[at + 5 + count] == log[at + 2]
+    if count < 2 {
+        return false;
+    }
+    if nodes < count {
+        return false;
+    }
+    if log.len() - at < 6 + count {
+        return false;
+    }
+    if log[at] != iteration {
+        return false;
+    }
+    if log[at + 1] != net {
+        return false;
+    }
+    log[at + 5 + count] == log[at + 2]
 }
 
 // The words of the record at the tariff's place, none where it doesn't follow; its path is marked.
@@ -208,8 +227,12 @@ pub fn least_cost(
     if !asked {
         return FAR;
     }
-    match search::cheapest_path(tables, prices, work, in_tree, sinks) {
-        Ok(Some(joins)) => joins.cost,
-        _ => FAR,
+    // Tables and numbers keep their rules: nothing is refused.
+    let Ok(joins) = search::cheapest_path(tables, prices, work, in_tree, sinks) else {
+        return FAR;
+    };
+    match joins {
+        Some(joins) => joins.cost,
+        None => FAR,
     }
 }

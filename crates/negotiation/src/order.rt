@@ -28,9 +28,11 @@ fn place_due(sinks: &[u16], criticality: &[u8], in_tree: &[u8]) -> usize
     let mut least: u8 = 0;
     for place in 0..sinks.len() {
         let s = sinks[place] as usize;
-        if in_tree[s] != 1 && least <= criticality[place] {
-            due = place;
-            least = criticality[place] + 1;
+        if in_tree[s] != 1 {
+            if least <= criticality[place] {
+                due = place;
+                least = criticality[place] + 1;
+            }
         }
     }
     due

@@ -93,7 +93,10 @@ fn found_path(
     };
     // Tables and numbers keep their rules: neither search refuses.
     if aimed {
-        return search::aimed_path(tables, back, prices, work, in_tree, sinks).unwrap_or(none);
+        return match search::aimed_path(tables, back, prices, work, in_tree, sinks) {
+            Ok(turn) => turn,
+            Err(_) => none,
+        };
     }
     match search::cheapest_path(tables, prices, work, in_tree, sinks) {
         Ok(joins) => AimedTurn { joins, expanded: 0 },

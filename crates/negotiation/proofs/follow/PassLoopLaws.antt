@@ -22,8 +22,8 @@ use Rattle.price.specs.Bounds.{path_most}
 use Rattle.price.specs.Lists.{has}
 use Rattle.price.specs.Replies.{price_reply_of}
 use Rattle.price.specs.Timed.{weighed_reply, weighed_most}
-use Rattle.price.specs.declared.PriceAnswer.{PriceAnswer}
-use Rattle.price.specs.declared.PriceAnswer.TheVariants.{Price}
+use Rattle.std.specs.Prelude.{Result, Ok}
+use Rattle.price.specs.declared.BadNumber.{BadNumber}
 use Rattle.price.proofs.TestLaws.{by_test, both_left}
 use Rattle.price.proofs.TimedLaws.{weighed_most_lem, weighed-path}
 use Rattle.search.specs.Block.{Block, block_of, graph_of, nodes, row_start, row, has_edge}
@@ -112,7 +112,7 @@ mark_last next to l = rw (le-ltb next to l)
 -- the price's answer to a node that is ready to be priced, within its bound
 pub price-found :
     {kinds capacities : List ℕ} {c : Congestion} {v : ℕ} → PriceReady kinds capacities c v → {d : ℕ} → (c.weighting.timed ≡ true → d ≡ get_or c.delays v 0)
-    → {r : PriceAnswer} {p : ℕ} → r ≡ Price p
+    → {r : Result ℕ BadNumber} {p : ℕ} → r ≡ Ok p
     → price_reply_of r ≡ weighed_reply c.weighting (get_or kinds v 0) c.factor (get_or c.others v 0) (get_or capacities v 0) (get_or c.histories v 0) d
     → (p ≡ price_at (block_of kinds capacities [] []) c v) × (p ≤ weighed_most c.weighting)
 unfolding price_at congested_at

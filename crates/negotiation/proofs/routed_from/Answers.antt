@@ -44,8 +44,9 @@ module _ (c : After-joined_tables-count) where
 
   made-is : made ≡ joined given
   made-is =
-      joined-job c.args.job.now.terms c.joined_tables-count.ensures c.args.job.now.block.kind.now c.args.job.now.block.capacity.now c.args.job.now.block.first_edge.now
-      c.args.job.now.block.edge_target.now c.args.job.now.delay.now
+      let block = c.args.job.now.block in
+      joined-job c.args.job.now.terms c.joined_tables-count.ensures block.kind.now block.capacity.now block.first_edge.now
+      block.edge_target.now c.args.job.now.delay.now
 
 pub joined_tables-count-requires : goal.joined_tables-count-requires
 joined_tables-count-requires c =

@@ -10,8 +10,8 @@ use Rattle.price.specs.Lists.{least}
 use Rattle.search.specs.Block as block
 use Rattle.search.specs.Block.{Block}
 use Rattle.search.specs.Turn.{Congestion, price_at, Turn, joins, stuck, open_distances, turn}
-use Rattle.search.specs.declared.PathAnswer.{PathAnswer}
-use Rattle.search.specs.declared.PathAnswer.TheVariants.{Joins, Stuck, BadTable, ShortWork, BadNumber, TooLarge}
+use Rattle.std.specs.Prelude.{Option, Some, None}
+use Rattle.search.specs.declared.Joins.{Joins}
 use Rattle.search.proofs.EdgeLaws.{Shaped, shaped}
 use Rattle.negotiation.specs.Records.{record_of, words}
 use Rattle.job.specs.Steps.{AllBelow, Stored}
@@ -38,10 +38,10 @@ module _ {b : Block} {prices : Congestion} {tariff : Tariff} {sinks marks work l
   made = turn b (price_at b prices) marks sinks
 
   pub turn-joined :
-      {r : PathAnswer} {place cost count : ℕ} {work' : List ℕ} → r ≡ Joins place cost count → PathFound (block.nodes b) made work r work'
-      → Joined (block.nodes b) made sinks marks work work' place cost count
-  turn-joined {r} {place} {cost} {count} {work'} is found =
-      let f : PathFound (block.nodes b) made work (Joins place cost count) work' = subst (λ (x : PathAnswer). PathFound (block.nodes b) made work x work') is found in
+      {r : Option Joins} {j : Joins} {work' : List ℕ} → r ≡ Some j → PathFound (block.nodes b) made work r work'
+      → Joined (block.nodes b) made sinks marks work work' j.place j.cost j.length
+  turn-joined {r} {j} {work'} is found =
+      let f : PathFound (block.nodes b) made work (Some j) work' = subst (λ (x : Option Joins). PathFound (block.nodes b) made work x work') is found in
       let graph : Shaped b = shaped b t.ready.sound in
       let few : block.nodes b ≤ nodes_most = graph.few in
       let at = joined-path t.ready sinks t.sinks_sound_lem f.0 in
@@ -58,14 +58,10 @@ module _ {b : Block} {prices : Congestion} {tariff : Tariff} {sinks marks work l
 
   -- any other answer is that no sink is left to be joined
   pub turn_other :
-      {work' : List ℕ} (r : PathAnswer) → ((place cost count : ℕ) → r ≡ Joins place cost count → ⊥)
+      {work' : List ℕ} (r : Option Joins) → ((j : Joins) → r ≡ Some j → ⊥)
       → PathFound (block.nodes b) made work r work' → Skipped made log marks log marks × SameFrom (8 * block.nodes b) work work'
-  turn_other (Joins place cost count) other f = absurd (other place cost count refl)
-  turn_other Stuck other f = (record { is_stuck = f.0; log-same = refl; marks_same = refl }, f.1)
-  turn_other (BadTable k) other f = absurd f
-  turn_other (ShortWork k) other f = absurd f
-  turn_other (BadNumber k) other f = absurd f
-  turn_other (TooLarge k) other f = absurd f
+  turn_other (Some j) other f = absurd (other j refl)
+  turn_other None other f = (record { is_stuck = f.0; log-same = refl; marks_same = refl }, f.1)
 
   -- no count overflows
   pub turn-counts : {counted : ℕ} → counted ≡ turn_count tariff.aimed b prices marks sinks → tariff.expanded + counted < 2 ^ 64

@@ -6,15 +6,15 @@ use native.Mathlib.Omega.{arith}
 use Rattle.negotiation.proofs.due.CrowdedLaws.{takes_none, takes_all, takes-crowded}
 use Rattle.negotiation.proofs.due.due_mark.Goals as goal
 
-pub returns-then-first_sink-net : goal.returns-then-first_sink-net
-returns-then-first_sink-net c =
+pub returns-then-job-net : goal.returns-then-job-net
+returns-then-job-net c =
     let a = c.args in
-    takes_none a.all a.capacity.now a.first_sink.now a.log.now a.tree_from.now a.tree_to.now a.users.now a.net (omega (arith, c.if-first_sink-net.true))
+    takes_none a.all a.job.now.block.capacity.now a.job.now.first_sink.now a.log.now a.tree_from.now a.tree_to.now a.users.now a.net (omega (arith, c.if-job-net.true))
 
 pub returns-then-all : goal.returns-then-all
 returns-then-all c =
     let a = c.args in
-    takes_all a.all a.capacity.now a.first_sink.now a.log.now a.tree_from.now a.tree_to.now a.users.now a.net (omega (arith, c.if-first_sink-net.false)) c.if-all.true
+    takes_all a.all a.job.now.block.capacity.now a.job.now.first_sink.now a.log.now a.tree_from.now a.tree_to.now a.users.now a.net (omega (arith, c.if-job-net.false)) c.if-all.true
 
 pub records_crowded-requires : goal.records_crowded-requires
 records_crowded-requires c =
@@ -25,11 +25,11 @@ records_crowded-requires c =
 pub returns-then-records_crowded : goal.returns-then-records_crowded
 returns-then-records_crowded c =
     let a = c.args in
-    takes-crowded a.all a.capacity.now a.first_sink.now a.log.now a.tree_from.now a.tree_to.now a.users.now a.net (omega (arith, c.if-first_sink-net.false))
+    takes-crowded a.all a.job.now.block.capacity.now a.job.now.first_sink.now a.log.now a.tree_from.now a.tree_to.now a.users.now a.net (omega (arith, c.if-job-net.false))
     true c.if-all.false (sym c.records_crowded.ensures ∙ c.if-records_crowded.true)
 
 pub returns-else-records_crowded : goal.returns-else-records_crowded
 returns-else-records_crowded c =
     let a = c.args in
-    takes-crowded a.all a.capacity.now a.first_sink.now a.log.now a.tree_from.now a.tree_to.now a.users.now a.net (omega (arith, c.if-first_sink-net.false))
+    takes-crowded a.all a.job.now.block.capacity.now a.job.now.first_sink.now a.log.now a.tree_from.now a.tree_to.now a.users.now a.net (omega (arith, c.if-job-net.false))
     false c.if-all.false (sym c.records_crowded.ensures ∙ c.if-records_crowded.false)

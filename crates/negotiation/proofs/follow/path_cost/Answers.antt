@@ -10,7 +10,7 @@ use lib.ListN.{length, get_or}
 use Rattle.search.specs.Turn.{congestion_of}
 use Rattle.search.proofs.PriceableLaws.{sound-graph}
 use Rattle.search.proofs.KeptLaws.{refused, passed}
-use Rattle.negotiation.proofs.follow.PassLoopLaws.{step_answer, price-block, pass_off, pass_out, pass_first, step_strays, step_node, cost-fits, step_on, pass_done, pass_marked}
+use Rattle.negotiation.proofs.follow.PassLoopLaws.{step_answer, pass_off, pass_out, pass_first, step_strays, step_node, cost-fits, step_on, pass_done, pass_marked}
 use Rattle.negotiation.proofs.follow.path_cost.Goals.{Else-not-step_passes}
 use Rattle.negotiation.proofs.follow.path_cost.Goals as goal
 
@@ -37,13 +37,13 @@ bounds-log-from c =
 pub overflow_cast-u : goal.overflow_cast-u
 overflow_cast-u c = omega (arith, c.type_inv.log c.args.from)
 
-pub returns-then-kind-u : goal.returns-then-kind-u
-returns-then-kind-u c = record { value = pass_out c.requires c.if-kind-u.true; path_marked = tt }
+pub returns-then-tables-u : goal.returns-then-tables-u
+returns-then-tables-u c = record { value = pass_out c.requires c.if-tables-u.true; path_marked = tt }
 
 pub bounds-in_tree-u : goal.bounds-in_tree-u
 bounds-in_tree-u c =
     let long = c.requires.turn.marks_long in
-    let below = c.if-kind-u.false in
+    let below = c.if-tables-u.false in
     omega arith
 
 pub returns-then-in_tree-u-ne1 : goal.returns-then-in_tree-u-ne1
@@ -55,7 +55,7 @@ overflow_add-k c =
     omega arith
 
 pub loop-k-init : goal.loop-k-init
-loop-k-init c = pass_first c.requires c.if-kind-u.false c.if-in_tree-u-ne1.false
+loop-k-init c = pass_first c.requires c.if-tables-u.false c.if-in_tree-u-ne1.false
 
 pub offset_bounds-log-k : goal.offset_bounds-log-k
 offset_bounds-log-k c =
@@ -103,7 +103,7 @@ pub loop-k-preserved : goal.loop-k-preserved
 loop-k-preserved c =
     step_on c.requires c.loop-k.invariant c.loop-k-test.true _
     (passed (step_answer _ _ _ _ _ _ _ _ (c.loop-k.k + 1) c.args.to c.step_passes.ensures c.last_mark-last.ensures) (ap not c.if-not-step_passes.false))
-    (price-block _ _ _ _ _ _ c.node_price-cost.ensures.0) c.node_price-cost.ensures.1
+    c.node_price-cost.ensures.0 c.node_price-cost.ensures.1
 
 pub shape_of-in_tree : goal.shape_of-in_tree
 shape_of-in_tree c = c.loop-k.invariant.marks_long ∙ sym c.requires.turn.marks_long

@@ -9,8 +9,5 @@ use Rattle.negotiation.proofs.nets.begin_net.Goals as goal
 pub returns-then-due-net-eq0 : goal.returns-then-due-net-eq0
 returns-then-due-net-eq0 c = record { idle = λ e. record { none_left = refl; users-same = refl; marks_same = refl }; begun = λ e. absurd (e (search rules)) }
 
-pub overflow_cast-result : goal.overflow_cast-result
-overflow_cast-result c = omega (arith, c.type_inv.first_sink (c.args.net + 1))
-
 pub returns : goal.returns
 returns c = record { idle = λ e. absurd (c.if-due-net-eq0.false e); begun = λ e. record { left_is = refl; bare = _; ripped = c.rip_up.ensures; marks_is = refl } }

@@ -8,28 +8,23 @@ use lib.ListN.{length, length-replicate}
 use lib.Seq.{length-take-le}
 use borrow.Author.Count.{below_none}
 use Rattle.search.proofs.BlockLaws.{kinds-few}
-use Rattle.job.specs.Job.{Job, job_of}
-use Rattle.negotiation.specs.Steps.{RoutableWith}
+use Rattle.job.specs.Job.{Job, nodes}
+use Rattle.job.specs.Lent.{job_in}
+use Rattle.negotiation.specs.Routable.{Routable}
 use Rattle.negotiation.proofs.FloodLaws.{same_from_refl}
-use Rattle.negotiation.proofs.reach.TestedLaws.{Tested, tested-all, flood_asked, tested-same, sinks-asked, tested-found, tested-more}
+use Rattle.negotiation.proofs.reach.TestedLaws.{Tested, flood_asked, sinks-asked, tested-found, tested-same, tested-more, tested-all}
 use Rattle.negotiation.proofs.reach.unreachable.Goals as goal
 
--- with the tables and terms of the precondition the lists are a job that can be routed
-module _ {kind first_edge edge_target source first_sink sink : List ℕ} (w : RoutableWith kind first_edge edge_target source first_sink sink) where
-  abbrev job : Job
-  job = job_of kind w.capacities first_edge edge_target source first_sink sink w.delays w.criticalities w.terms
-
-  few : length kind ≤ 4096
-  few = kinds-few kind w.routable.block-sound.kinds_sound_lem
+module _ {j : Job} (sound : Routable j) where
+  few : nodes j ≤ 4096
+  few = kinds-few j.block.kinds sound.block-sound.kinds_sound_lem
 
   -- there is a mark for each node
-  marks-enough :
-      {before work marks : List ℕ} {net : ℕ} → Tested job 4096 before work marks net → length kind ≤ length marks
+  marks-enough : {before work marks : List ℕ} {net : ℕ} → Tested j 4096 before work marks net → nodes j ≤ length marks
   marks-enough t = omega (arith, few, t.marks_long)
 
 pub loop-net-init : goal.loop-net-init
 loop-net-init c =
-    λ capacities delays criticalities terms s.
     record {
       within = omega arith;
       same = same_from_refl _ _;
@@ -38,59 +33,38 @@ loop-net-init c =
     }
 
 pub slice_bounds-reached-end : goal.slice_bounds-reached-end
-slice_bounds-reached-end c =
-    let w = c.requires.routable_with in
-    marks-enough w (c.loop-net.invariant w.capacities w.delays w.criticalities w.terms w.routable)
+slice_bounds-reached-end c = marks-enough c.requires.0 c.loop-net.invariant
 
 pub slice_bounds-flood-end-in-loop-net : goal.slice_bounds-flood-end-in-loop-net
-slice_bounds-flood-end-in-loop-net c =
-    let w = c.requires.routable_with in
-    sym (length-take-le _ _ (marks-enough w (c.loop-net.invariant w.capacities w.delays w.criticalities w.terms w.routable)))
+slice_bounds-flood-end-in-loop-net c = sym (length-take-le _ _ (marks-enough c.requires.0 c.loop-net.invariant))
 
 pub flood-requires : goal.flood-requires
 flood-requires c =
-    let w = c.requires.routable_with in
-    flood_asked (job w) w.routable c.loop-net.net c.loop-net-test.true (few w) c.requires.kind_in_bounds
-    (c.loop-net.invariant w.capacities w.delays w.criticalities w.terms w.routable)
+    flood_asked _ c.requires.0 c.loop-net.net c.loop-net-test.true (few c.requires.0) c.requires.1 c.loop-net.invariant
 
 pub missing_sink-place-requires : goal.missing_sink-place-requires
 missing_sink-place-requires c =
-    let w = c.requires.routable_with in
     record {
-      all_below =
-          sinks-asked (job w) w.routable c.loop-net.net c.loop-net-test.true (few w) c.requires.kind_in_bounds
-          (c.loop-net.invariant w.capacities w.delays w.criticalities w.terms w.routable) c.flood.ensures;
+      all_below = sinks-asked _ c.requires.0 c.loop-net.net c.loop-net-test.true (few c.requires.0) c.requires.1 c.loop-net.invariant c.flood.ensures;
       from_in_bounds = omega arith;
     }
 
 pub returns-then-place-to : goal.returns-then-place-to
 returns-then-place-to c =
-    let w = c.requires.routable_with in
     let call = c.missing_sink-place in
-    let args = c.args in
     record {
-      first_missing = λ capacities delays criticalities terms s.
-          tested-found (job_of args.job.now.block.kind.now capacities args.job.now.block.first_edge.now args.job.now.block.edge_target.now args.job.now.source.now args.job.now.first_sink.now args.job.now.sink.now delays criticalities terms)
-          s c.loop-net.net c.loop-net-test.true (few w) c.requires.kind_in_bounds
-          (c.loop-net.invariant capacities delays criticalities terms s) c.flood.ensures call.result call.ensures c.if-place-to.true;
+      first_missing =
+          tested-found _ c.requires.0 c.loop-net.net c.loop-net-test.true (few c.requires.0) c.requires.1 c.loop-net.invariant c.flood.ensures call.result
+          call.ensures c.if-place-to.true;
       same_from =
-          tested-same (job w) w.routable c.loop-net.net c.loop-net-test.true (few w) c.requires.kind_in_bounds
-          (c.loop-net.invariant w.capacities w.delays w.criticalities w.terms w.routable) c.flood.ensures;
+          tested-same _ c.requires.0 c.loop-net.net c.loop-net-test.true (few c.requires.0) c.requires.1 c.loop-net.invariant c.flood.ensures;
     }
 
 pub loop-net-preserved : goal.loop-net-preserved
 loop-net-preserved c =
-    λ capacities delays criticalities terms s.
     let call = c.missing_sink-place in
-    let args = c.args in
-    tested-more (job_of args.job.now.block.kind.now capacities args.job.now.block.first_edge.now args.job.now.block.edge_target.now args.job.now.source.now args.job.now.first_sink.now args.job.now.sink.now delays criticalities terms)
-    s c.loop-net.net c.loop-net-test.true (few c.requires.routable_with) c.requires.kind_in_bounds
-    (c.loop-net.invariant capacities delays criticalities terms s) c.flood.ensures call.result call.ensures c.if-place-to.false
+    tested-more _ c.requires.0 c.loop-net.net c.loop-net-test.true (few c.requires.0) c.requires.1 c.loop-net.invariant c.flood.ensures call.result
+    call.ensures c.if-place-to.false
 
 pub returns : goal.returns
-returns c =
-    let w = c.requires.routable_with in
-    record {
-      first_missing = λ capacities delays criticalities terms s. tested-all c.loop-net-test.false (c.loop-net.invariant capacities delays criticalities terms s);
-      same_from = (c.loop-net.invariant w.capacities w.delays w.criticalities w.terms w.routable).same;
-    }
+returns c = record { first_missing = tested-all c.loop-net-test.false c.loop-net.invariant; same_from = c.loop-net.invariant.same }

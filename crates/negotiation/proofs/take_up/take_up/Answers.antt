@@ -28,7 +28,7 @@ follow_nets-requires c =
     let room = c.requires.1 in
     let same = c.loop-more.invariant.1.long in
     let opened = nets_open _ c.requires.0 c.loop-more.invariant.0 c.mark_due.ensures in
-    (record { terms = _; timed_is = refl; progress = _; open_so = opened }, omega arith)
+    (record { progress = _; open_so = opened }, omega arith)
 
 pub returns-in_err-t : goal.returns-in_err-t
 returns-in_err-t c =

@@ -1,12 +1,20 @@
 -- `negotiation::turns::found_path` meets its contract: nothing is refused, so either search answers the turn.
 -- Assumes nothing.
-use Rattle.negotiation.proofs.FoundLaws.{plain_found, aimed_found}
+use Rattle.negotiation.proofs.FoundLaws.{plain_found, plain_never, aimed_found, aimed_never}
 use Rattle.negotiation.proofs.turns.found_path.Goals as goal
 
-pub returns-then-aimed : goal.returns-then-aimed
-returns-then-aimed c =
-    aimed_found c.requires.ready.0 _ c.requires.ready.1 c.if-aimed.true c.requires.back_lent c.aimed_path.result c.aimed_path.ensures.answers
+pub returns-in-Ok : goal.returns-in-Ok
+returns-in-Ok c =
+    aimed_found c.requires.ready.0 _ c.requires.ready.1 _ c.if-aimed.true c.requires.back_lent c.in-Ok.is c.aimed_path.ensures.answers
 
-pub returns : goal.returns
-returns c =
-    plain_found c.requires.ready.0 _ c.requires.ready.1 c.if-aimed.false c.cheapest_path-answer.result c.cheapest_path-answer.ensures.answers
+pub returns-in-Err : goal.returns-in-Err
+returns-in-Err c =
+    absurd (aimed_never c.requires.ready.0 _ c.requires.ready.1 _ c.if-aimed.true c.requires.back_lent c.in-Err.is c.aimed_path.ensures.answers)
+
+pub returns-in-Ok-2 : goal.returns-in-Ok-2
+returns-in-Ok-2 c =
+    plain_found c.requires.ready.0 _ c.requires.ready.1 c.if-aimed.false c.in-Ok.is c.cheapest_path.ensures.answers
+
+pub returns-in-Err-2 : goal.returns-in-Err-2
+returns-in-Err-2 c =
+    absurd (plain_never c.requires.ready.0 _ c.requires.ready.1 c.in-Err.is c.cheapest_path.ensures.answers)

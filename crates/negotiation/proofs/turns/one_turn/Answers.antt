@@ -14,7 +14,7 @@ found_path-found-requires c = record { ready = (c.requires.ready.ready, c.requir
 
 pub returns-in_default : goal.returns-in_default
 returns-in_default c =
-    let other = turn_other c.requires.ready c.found_path-found.result.answer c.in_default.not-Joins c.found_path-found.ensures.0 in
+    let other = turn_other c.requires.ready c.found_path-found.result.joins c.in_default.not-Some c.found_path-found.ensures.0 in
     record { answers = other.0; same_from = other.1 }
 
 pub overflow_sub-log : goal.overflow_sub-log
@@ -22,22 +22,22 @@ overflow_sub-log c = c.requires.ready.within
 
 pub returns-then-log-at : goal.returns-then-log-at
 returns-then-log-at c =
-    let j = turn-joined c.requires.ready c.in-Joins.is c.found_path-found.ensures.0 in record { answers = turn_full j c.if-log-at.true c.requires.ready.within; same_from = j.rest }
+    let j = turn-joined c.requires.ready c.in-Some.is c.found_path-found.ensures.0 in record { answers = turn_full j c.if-log-at.true c.requires.ready.within; same_from = j.rest }
 
-pub bounds-sinks-p : goal.bounds-sinks-p
-bounds-sinks-p c =
-    (turn-joined c.requires.ready c.in-Joins.is c.found_path-found.ensures.0).within
+pub bounds-sinks-joins : goal.bounds-sinks-joins
+bounds-sinks-joins c =
+    (turn-joined c.requires.ready c.in-Some.is c.found_path-found.ensures.0).within
 
-pub overflow_cast-sinks : goal.overflow_cast-sinks
-overflow_cast-sinks c = omega (arith, c.type_inv.sinks c.in-Joins.place)
+pub overflow_cast-sink : goal.overflow_cast-sink
+overflow_cast-sink c = omega (arith, c.type_inv.sinks c.in-Some.joins.place)
 
 pub write_record-requires : goal.write_record-requires
 write_record-requires c =
-    let j = turn-joined c.requires.ready c.in-Joins.is c.found_path-found.ensures.0 in record { count_in_bounds = (j.long, omega (arith, c.if-log-at.false, c.requires.ready.within), omega (arith, j.few)); all_below = j.small }
+    let j = turn-joined c.requires.ready c.in-Some.is c.found_path-found.ensures.0 in record { count_in_bounds = (j.long, omega (arith, c.if-log-at.false, c.requires.ready.within), omega (arith, j.few)); all_below = j.small }
 
 pub mark_path-requires : goal.mark_path-requires
 mark_path-requires c =
-    let j = turn-joined c.requires.ready c.in-Joins.is c.found_path-found.ensures.0 in
+    let j = turn-joined c.requires.ready c.in-Some.is c.found_path-found.ensures.0 in
     (j.long, j.nodes-below)
 
 pub turn_logged-logged-requires : goal.turn_logged-logged-requires
@@ -50,7 +50,7 @@ turn_logged-logged-requires c =
 
 pub returns : goal.returns
 returns c =
-    let j = turn-joined c.requires.ready c.in-Joins.is c.found_path-found.ensures.0 in record {
+    let j = turn-joined c.requires.ready c.in-Some.is c.found_path-found.ensures.0 in record {
       answers = turn-logs j (omega (arith, c.if-log-at.false, c.requires.ready.within)) c.write_record.ensures c.mark_path.ensures
           c.turn_logged-logged.ensures c.found_path-found.ensures.1;
       same_from = j.rest;
