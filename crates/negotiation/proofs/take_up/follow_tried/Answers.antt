@@ -18,8 +18,8 @@ returns-then-ends_here c =
 pub slice_bounds-goals-end : goal.slice_bounds-goals-end
 slice_bounds-goals-end c = goals-enough c.requires.ready c.next_tried-tried.ensures
 
-pub slice_bounds-set_goals-end-2 : goal.slice_bounds-set_goals-end-2
-slice_bounds-set_goals-end-2 c = sym (length-take-le _ _ (goals-enough c.requires.ready c.next_tried-tried.ensures))
+pub slice_bounds-set_goals-end : goal.slice_bounds-set_goals-end
+slice_bounds-set_goals-end c = sym (length-take-le _ _ (goals-enough c.requires.ready c.next_tried-tried.ensures))
 
 pub set_goals-requires : goal.set_goals-requires
 set_goals-requires c = goals-asked c.requires.ready c.next_tried-tried.ensures
