@@ -53,13 +53,13 @@ returns-then-turns-eq0 c =
     }
 
 pub slice_bounds-missing_sink-count : goal.slice_bounds-missing_sink-count
-slice_bounds-missing_sink-count c = part-order _ (asked c).opens
+slice_bounds-missing_sink-count c = part-order _ (asked (goal.at.slice_bounds-missing_sink-count c).Else-turns-eq0).opens
 
 pub slice_bounds-missing_sink-start : goal.slice_bounds-missing_sink-start
-slice_bounds-missing_sink-start c = part-order _ (asked c).opens
+slice_bounds-missing_sink-start c = part-order _ (asked (goal.at.slice_bounds-missing_sink-start c).Else-turns-eq0).opens
 
 pub slice_bounds-missing_sink-end : goal.slice_bounds-missing_sink-end
-slice_bounds-missing_sink-end c = part-within _ (asked c).opens
+slice_bounds-missing_sink-end c = part-within _ (asked (goal.at.slice_bounds-missing_sink-end c).Else-turns-eq0).opens
 
 pub missing_sink-place-requires : goal.missing_sink-place-requires
 missing_sink-place-requires c = record { all_below = part-below _ (asked (goal.at.missing_sink-place-requires c).Else-turns-eq0).opens _ refl; from_in_bounds = zero-le }
