@@ -49,11 +49,11 @@ module _ (c : After-follow_net) where
 pub loop-net-init : goal.loop-net-init
 loop-net-init c = ((λ p o. nets-start _ _ o), omega arith, record { long = refl; high = λ k l. refl })
 
-pub bounds-first_sink-net : goal.bounds-first_sink-net
-bounds-first_sink-net c = let l = (routable (goal.at.bounds-first_sink-net c).At-loop-net).first_sinks-long in let h = c.loop-net-test.true in omega arith
+pub bounds-job-net : goal.bounds-job-net
+bounds-job-net c = let l = (routable (goal.at.bounds-job-net c).At-loop-net).first_sinks-long in let h = c.loop-net-test.true in omega arith
 
-pub bounds-first_sink-net-in-loop-net : goal.bounds-first_sink-net-in-loop-net
-bounds-first_sink-net-in-loop-net c = let l = (routable (goal.at.bounds-first_sink-net-in-loop-net c).At-loop-net).first_sinks-long in let h = c.loop-net-test.true in omega arith
+pub bounds-job-net-in-loop-net : goal.bounds-job-net-in-loop-net
+bounds-job-net-in-loop-net c = let l = (routable (goal.at.bounds-job-net-in-loop-net c).At-loop-net).first_sinks-long in let h = c.loop-net-test.true in omega arith
 
 pub begin_net-turns-requires : goal.begin_net-turns-requires
 begin_net-turns-requires c =
