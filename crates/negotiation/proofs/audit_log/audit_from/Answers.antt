@@ -20,8 +20,8 @@ job e =
 few-nodes : (e : Start) → length e.args.job.now.block.kind.now ≤ 4096
 few-nodes e = kinds-few _ e.requires.0.block-sound.kinds_sound_lem
 
-pub overflow_mul-kind : goal.overflow_mul-kind
-overflow_mul-kind c = let few = few-nodes (goal.at.overflow_mul-kind c).Start in omega arith
+pub overflow_mul-job : goal.overflow_mul-job
+overflow_mul-job c = let few = few-nodes (goal.at.overflow_mul-job c).Start in omega arith
 
 pub returns-then-log-used : goal.returns-then-log-used
 returns-then-log-used c =
@@ -31,8 +31,8 @@ returns-then-log-used c =
 pub slice_bounds-take_up-end : goal.slice_bounds-take_up-end
 slice_bounds-take_up-end c = sym (length-take-le _ _ c.if-log-used.false)
 
-pub overflow_mul-kind-2 : goal.overflow_mul-kind-2
-overflow_mul-kind-2 c = let few = few-nodes (goal.at.overflow_mul-kind-2 c).Start in omega arith
+pub overflow_mul-job-2 : goal.overflow_mul-job-2
+overflow_mul-job-2 c = let few = few-nodes (goal.at.overflow_mul-job-2 c).Start in omega arith
 
 pub clear-requires-2 : goal.clear-requires-2
 clear-requires-2 c =
