@@ -1,7 +1,8 @@
 -- What the private functions that take up a lent log leave: tariff and lists over the progress that the replay has reached. It is no value
 -- of the code, nor is the whole job within an iteration. Only their contracts cite this file: no caller has to believe it.
 -- Assumes nothing.
-use Rattle.std.specs.Prelude.{Option, Some, None, Result, Ok, Err, Bool, true, List, [], ◌∷◌, ◌++◌, ◌≡◌, ℕ, ◌+◌, ◌-◌, ◌≤◌, ◌<◌, eqb, leb, ltb, length, get_or}
+use Rattle.std.specs.Prelude.{Option, Some, None, Result, Ok, Err, Bool, true, List, [], ◌∷◌, ◌++◌, ◌≡◌}
+use Rattle.std.specs.Prelude.{ℕ, ◌+◌, ◌-◌, ◌≤◌, ◌<◌, eqb, leb, ltb, length, get_or}
 use Rattle.std.proofs.Math.Seq.{slice}
 use Rattle.price.specs.Test.{choose, both, either}
 use Rattle.price.specs.Lists.{has, up_to}
@@ -96,14 +97,15 @@ pub record TryReady (tables : JobTables) (from to : ℕ) (t : Tariff) (history u
 abbrev pub tried_least : (tables : JobTables) → (from to : ℕ) → Tariff → Bool → (history users marks : List ℕ) → ℕ
 tried_least tables from to t audit history users marks =
     let b = block_in tables.block in
-    least_asked audit (turn b (price_at b (congestion_here tables from to marks t history users)) marks (tried_here tables from to marks))
+    let price = price_at b (congestion_here tables from to marks t history users) in
+    least_asked audit (turn b price marks (tried_here tables from to marks))
 
 -- the words begin with a record that follows
 abbrev pub tried_passes : (tables : JobTables) → (from to : ℕ) → Tariff → (net : ℕ) → (history users marks ws : List ℕ) → Bool
 tried_passes tables from to t net history users marks ws =
     let b = block_in tables.block in
-    turn_passes b (price_at b (congestion_here tables from to marks t history users)) (goals_here tables from to marks) marks t.iteration net
-    ws
+    let price = price_at b (congestion_here tables from to marks t history users) in
+    turn_passes b price (goals_here tables from to marks) marks t.iteration net ws
 
 -- ---- the turns of a net
 

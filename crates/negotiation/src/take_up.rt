@@ -89,6 +89,7 @@ fn set_goals(sinks: &[u16], goals: &mut [u8])
 }
 
 // The words of the record at the tariff's place, given none where it doesn't follow, if its cost is a least cost of the turn.
+#[tactic(auto, unfolding(crate::specs::TakeSteps::judged_as))]
 fn judged(
     log: &[u32],
     t: Tariff,
@@ -240,6 +241,7 @@ fn follow_nets(
 }
 
 // What a log comes to behind a whole iteration: an audit's words may end there; else a node is overfull, and the limit is not reached.
+#[tactic(auto, unfolding(crate::specs::TakeSteps::whole_as))]
 fn whole_iteration(
     audit: bool,
     t: Tariff,
@@ -253,10 +255,7 @@ fn whole_iteration(
         return Err(Stopped::Ends(came_to(t, t.iteration, over)));
     }
     let settled = over == 0;
-    if settled {
-        return Err(Stopped::Off(t.words));
-    }
-    if t.iteration == limit {
+    if settled || t.iteration == limit {
         return Err(Stopped::Off(t.words));
     }
     Ok(t)
