@@ -55,7 +55,7 @@ pub fn words_at(stopped: Stopped) -> usize
     match stopped {
         Stopped::Off(word) => word,
         Stopped::Ends(at) => at.words,
-        Stopped::NotCheapest { at, cost, least } => at.words,
+        Stopped::NotCheapest { at, .. } => at.words,
     }
 }
 

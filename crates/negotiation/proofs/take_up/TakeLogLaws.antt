@@ -33,7 +33,7 @@ use Rattle.negotiation.specs.Kept.{CanGoOn, Ready}
 use Rattle.negotiation.specs.Resume.{Replay, on, off, ends, not_cheapest, if_on, at_end, since_start, moved_on, replay_nets, replay_next, replay_from}
 use Rattle.negotiation.specs.TakeSteps.{told_of, whole_as, ToldAt, NetsOpen, NetsOn, NetsEnd, NetsTaken, LogOn, LogEnds, LogTaken}
 use Rattle.negotiation.specs.declared.tariff.Tariff.{Tariff}
-use Rattle.std.specs.Prelude.{Option, Some, None, Result, Ok, Err}
+use Rattle.std.specs.Prelude.{Result, Ok, Err}
 use Rattle.negotiation.specs.declared.take_up.Stopped.{Stopped}
 use Rattle.negotiation.specs.declared.take_up.Stopped.TheVariants.{Off, Ends, NotCheapest}
 use Rattle.negotiation.specs.declared.take_up.Told.{Told}

@@ -24,7 +24,7 @@ use Rattle.negotiation.specs.Steps.{BeginReady, Begun, Idle, EndReady, Ended, Pa
 use Rattle.negotiation.specs.Resume.{Replay, on, off, ends, not_cheapest, if_on, gone_to, replay_turns, replay_nets}
 use Rattle.negotiation.specs.TakeSteps.{NetPlaces, NetOpens, NetOn, ToldAt, NetEnds, NetTaken, NetsOpen, NetsOn, NetsEnd, NetsTaken}
 use Rattle.negotiation.specs.declared.tariff.Tariff.{Tariff}
-use Rattle.std.specs.Prelude.{Option, Some, None, Result, Ok, Err}
+use Rattle.std.specs.Prelude.{Result, Ok, Err}
 use Rattle.negotiation.specs.declared.take_up.Stopped.{Stopped}
 use Rattle.negotiation.specs.declared.take_up.Stopped.TheVariants.{Off, Ends, NotCheapest}
 use Rattle.negotiation.specs.declared.take_up.Told.{Told}

@@ -47,7 +47,7 @@ use Rattle.negotiation.specs.Resume.{record_path, record_in, whole_record, cost_
 use Rattle.negotiation.specs.ResumeSteps.{named_cost, turn_passes}
 use Rattle.negotiation.specs.TakeSteps.{TakenTo, told_of, tried_as, goals_of, TryReady, tried_passes, tried_least, NetOpens, NetOn, ToldAt, NetTaken}
 use Rattle.negotiation.specs.declared.tariff.Tariff.{Tariff}
-use Rattle.std.specs.Prelude.{Option, Some, None, Result, Ok, Err}
+use Rattle.std.specs.Prelude.{Result, Ok, Err}
 use Rattle.negotiation.specs.declared.take_up.Stopped.{Stopped}
 use Rattle.negotiation.specs.declared.take_up.Walk.{Walk}
 use Rattle.negotiation.proofs.MemberLaws.{every-has, every_members, no_entry}

@@ -33,7 +33,7 @@ use Rattle.job.specs.Lent.{job_in}
 use Rattle.job.specs.Steps.{AllBelow, Stored}
 use Rattle.job.specs.declared.JobTables.{JobTables}
 use Rattle.negotiation.specs.Routable.{Routable}
-use Rattle.negotiation.specs.Order.{weighting_due, turn_sinks, turn_weighting, turn_congestion}
+use Rattle.negotiation.specs.Order.{turn_sinks, turn_weighting, turn_congestion}
 use Rattle.negotiation.specs.OrderSteps.{TriedSinks}
 use Rattle.negotiation.specs.Machine.{State, others_of, marks_of, congestion_for}
 use Rattle.negotiation.specs.Resume.{turn_price, least_cost}

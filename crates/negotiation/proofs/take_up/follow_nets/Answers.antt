@@ -1,7 +1,7 @@
 -- `negotiation::take_up::follow_nets` meets its contract: under any such terms and from any progress at which an iteration opens so, the nets passed follow
 -- (`TakeNetLaws`). What is safe rests on the one that is asked for. The measure: nets left.
 -- Assumes nothing.
-use mathlib.Core.Path.{◌≡◌, refl}
+use mathlib.Core.Path.{refl}
 use Prim.Native.Nat.{ℕ, ◌+◌, ◌*◌}
 use native.Mathlib.Omega.{arith}
 use lib.ListN.{length, get_or}
