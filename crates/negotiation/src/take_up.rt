@@ -286,8 +286,7 @@ pub fn take_up(
 {
     let mut tariff = begun;
     let mut over = 0u32;
-    let mut more = true;
-    while more {
+    loop {
         due::mark_due(job, tariff, log, tree_from, tree_to, users, due);
         let walk = Walk { audit, over };
         let t = follow_nets(
@@ -297,7 +296,8 @@ pub fn take_up(
         let next = whole_iteration(audit, t, over, job.terms.limit, log.len())?;
         congestion::grow_histories(job.terms.tuning, job.block.capacity, users, history);
         tariff = tariff::iteration_started(tariff::iteration_ended(next, job.terms.tuning));
-        more = tariff.words < log.len();
+        if log.len() <= tariff.words {
+            return Ok(tariff);
+        }
     }
-    Ok(tariff)
 }
