@@ -39,6 +39,7 @@ use Rattle.negotiation.specs.Kept.{Tallied}
 use Rattle.negotiation.specs.declared.tariff.Tariff.{Tariff}
 use Rattle.negotiation.specs.declared.turns.NoRoom.{NoRoom}
 use Rattle.std.specs.Prelude.{Option, Some, None, Result, Ok, Err}
+use Rattle.std.specs.Option.{unwrap_or}
 use Rattle.negotiation.proofs.OrderLaws.{untimed-sinks, timed_sinks, weighting_timed, criticality_low, turn-nodes}
 use Rattle.negotiation.proofs.NextTriedLaws.{part_at, tried_alike, weighting_alike}
 use Rattle.negotiation.proofs.StateLaws.{nets-factor}
@@ -419,6 +420,10 @@ module _ (j : Job) (sound : Routable j) {p : Progress} {work₀ log₀ : List �
     after-logged t' e t'' q =
         subst (λ (x : Tariff). AtTurns j p work₀ log₀ m i (left - 1) x history users marks' from to dues work' log' first) (sym q)
         (inr (keep_logged j sound enough at_more lent work' log' marks' kept t' (case (Ok (Some t')) e)))
+
+    pub after_turn : (o : Option Tariff) → made ≡ Ok o → (t'' : Tariff) → t'' ≡ unwrap_or o t → AtTurns j p work₀ log₀ m i (left - 1) t'' history users marks' from to dues work' log' first
+    after_turn None e t'' q = after_nothing e t'' q
+    after_turn (Some t') e t'' q = after-logged t' e t'' q
 
     pub overflows : {full : NoRoom} → made ≡ Err full → Overflows (turn_of j (congestion_for j (reached j p m i).state i) i (tree_from j i at_more.made)) t log log'
     overflows {full} e = subst (λ (u : Turn). Overflows u t log log') (keep_turn j sound enough at_more lent) (case (Err full) e)

@@ -10,6 +10,11 @@ use lib.ListN.{length, take}
 use borrow.Author.Tests.{le-leb, lt-leb, lt-ltb, le-ltb, leb-false, ltb-false}
 use Rattle.std.specs.Prelude.{Option, Some, None, Result, Ok, Err}
 use Rattle.price.proofs.TestLaws.{by_test, true≢false}
+use Rattle.std.proofs.lemmas.Result.{err_from_is_err_and}
+use Rattle.std.specs.Result.{IsErrAnd}
+use Rattle.search.specs.Lent.{tested}
+use Rattle.search.specs.declared.BadTable.{BadTable as Bad}
+use Rattle.search.proofs.TestedLaws.{tested_bad}
 use Rattle.search.specs.Replies.{work_needed, cleared}
 use Rattle.job.specs.Job.{Job, nodes, nets}
 use Rattle.job.specs.Tables.{faulty_job, exceeds}
@@ -122,6 +127,15 @@ module _ (j : Job) (entries : ℕ) where
 
         pub nothing_told : work_needed (nodes j) ≤ entries → Ok tt ≡ job_refusal j entries
         nothing_told h = rw (lt-leb 1 (faulty_job j) fine, fits, le-ltb entries (work_needed (nodes j)) h)
+
+-- where tables are refused, the lowest that breaks its rule is told
+pub bad_told :
+    (j : Job) (entries : ℕ) {bad : Bad} (r : Result (Unit {0}) Outcome) → tested (faulty_job j) ≡ Err bad → IsErrAnd r (λ o. o ≡ BadTable bad.table)
+    → r ≡ job_refusal j entries
+bad_told j entries {bad} r e is =
+    let p = err_from_is_err_and r is in
+    let t = tested_bad (faulty_job j) e in
+    p.1 ∙ ap Err p.2 ∙ table_told j entries bad.table (sym t.0) (omega (arith, t.0, t.1))
 
 -- ---- what the router answers
 

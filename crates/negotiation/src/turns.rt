@@ -256,17 +256,12 @@ fn go_on(
             let first = tariff.words;
             let most = nets::begin_net(job, log, net, due, tree_from, tree_to, users, in_tree);
             for _ in 0..most {
-                match net_turn(
+                let Ok(made) = net_turn(
                     job, back, from, to, net as u32, tariff, work, log, history, users, in_tree,
-                ) {
-                    Ok(None) => {}
-                    Ok(Some(t)) => {
-                        tariff = t;
-                    }
-                    Err(NoRoom) => {
-                        break 'iterations;
-                    }
-                }
+                ) else {
+                    break 'iterations;
+                };
+                tariff = made.unwrap_or(tariff);
             }
             let until = tariff.words;
             nets::end_net(

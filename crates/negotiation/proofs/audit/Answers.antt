@@ -59,14 +59,14 @@ joined_tables-count-requires c =
       criticality_len = (given_critical (listed at) (passes at) _ refl, tables.sinks-few);
     }
 
-pub slice_bounds-audit_joined-end : goal.slice_bounds-audit_joined-end
-slice_bounds-audit_joined-end c = sym (length-take-le _ _ c.joined_tables-count.ensures.ends-within)
+pub slice_bounds-joined-end : goal.slice_bounds-joined-end
+slice_bounds-joined-end c = sym (length-take-le _ _ c.joined_tables-count.ensures.ends-within)
 
-pub slice_bounds-audit_joined-end-2 : goal.slice_bounds-audit_joined-end-2
-slice_bounds-audit_joined-end-2 c = sym (length-take-le _ _ c.joined_tables-count.ensures.within)
+pub slice_bounds-joined-end-2 : goal.slice_bounds-joined-end-2
+slice_bounds-joined-end-2 c = sym (length-take-le _ _ c.joined_tables-count.ensures.within)
 
-pub slice_bounds-audit_joined-end-3 : goal.slice_bounds-audit_joined-end-3
-slice_bounds-audit_joined-end-3 c = sym (length-take-le _ _ c.joined_tables-count.ensures.criticalities-within)
+pub slice_bounds-joined-end-3 : goal.slice_bounds-joined-end-3
+slice_bounds-joined-end-3 c = sym (length-take-le _ _ c.joined_tables-count.ensures.criticalities-within)
 
 pub audit_joined-requires : goal.audit_joined-requires
 audit_joined-requires c =

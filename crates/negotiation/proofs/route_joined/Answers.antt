@@ -18,23 +18,13 @@ job u =
     job_in u.args.job.now
 
 test : (u : After-unreachable) → reach_numbers u.unreachable.result ≡ missing (job u)
-test u =
-    u.unreachable.ensures.first_missing u.args.job.now.block.capacity.now u.args.job.now.delay.now u.args.job.now.criticality.now u.args.job.now.terms u.requires.0
+test u = u.unreachable.ensures.first_missing
 
 pub unreachable-requires : goal.unreachable-requires
-unreachable-requires c = record {
-  routable_with = record {
-    capacities = c.args.job.now.block.capacity.now;
-    delays = c.args.job.now.delay.now;
-    criticalities = c.args.job.now.criticality.now;
-    terms = c.args.job.now.terms;
-    routable = c.requires.0;
-  };
-  kind_in_bounds = c.requires.1;
-}
+unreachable-requires c = c.requires
 
-pub overflow_mul-kind : goal.overflow_mul-kind
-overflow_mul-kind c =
+pub overflow_mul-job : goal.overflow_mul-job
+overflow_mul-job c =
     let few = kinds-few c.args.job.now.block.kind.now c.requires.0.block-sound.kinds_sound_lem in
     omega arith
 

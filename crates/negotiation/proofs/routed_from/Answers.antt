@@ -58,14 +58,14 @@ joined_tables-count-requires c =
       criticality_len = (given_critical (listed at) (passes at) _ refl, tables.sinks-few);
     }
 
-pub slice_bounds-route_joined-end : goal.slice_bounds-route_joined-end
-slice_bounds-route_joined-end c = sym (length-take-le _ _ c.joined_tables-count.ensures.ends-within)
+pub slice_bounds-joined-end : goal.slice_bounds-joined-end
+slice_bounds-joined-end c = sym (length-take-le _ _ c.joined_tables-count.ensures.ends-within)
 
-pub slice_bounds-route_joined-end-2 : goal.slice_bounds-route_joined-end-2
-slice_bounds-route_joined-end-2 c = sym (length-take-le _ _ c.joined_tables-count.ensures.within)
+pub slice_bounds-joined-end-2 : goal.slice_bounds-joined-end-2
+slice_bounds-joined-end-2 c = sym (length-take-le _ _ c.joined_tables-count.ensures.within)
 
-pub slice_bounds-route_joined-end-3 : goal.slice_bounds-route_joined-end-3
-slice_bounds-route_joined-end-3 c = sym (length-take-le _ _ c.joined_tables-count.ensures.criticalities-within)
+pub slice_bounds-joined-end-3 : goal.slice_bounds-joined-end-3
+slice_bounds-joined-end-3 c = sym (length-take-le _ _ c.joined_tables-count.ensures.criticalities-within)
 
 pub route_joined-requires : goal.route_joined-requires
 route_joined-requires c =

@@ -22,6 +22,7 @@ use Rattle.negotiation.specs.Kept.{Tallied, Ready}
 use Rattle.negotiation.specs.declared.tariff.Tariff.{Tariff}
 use Rattle.negotiation.specs.declared.turns.NoRoom.{NoRoom}
 use Rattle.std.specs.Prelude.{Option, Some, None, Result, Ok, Err}
+use Rattle.std.specs.Option.{unwrap_or}
 use Rattle.negotiation.specs.declared.RouteAnswer.{RouteAnswer}
 use Rattle.negotiation.proofs.RecordLaws.{decode-encode}
 use Rattle.negotiation.proofs.RanLaws.{ran-iteration}
@@ -147,3 +148,7 @@ module _ (j : Job) (sound : Routable j) (all : Reached j) {p : Progress} {work�
     counts-logged t' e t'' q k aimed ran c =
         subst (λ (x : Tariff). Counts aimed j p.records x log') (sym q)
         (turn-counted j sound all enough (at_more j sound enough head some lent) lent ran c work' log' marks' kept t' (case (Ok (Some t')) e))
+
+    pub counts_turn : (o : Option Tariff) → made ≡ Ok o → (t'' : Tariff) → t'' ≡ unwrap_or o t → CountsOn j p t log t'' log'
+    counts_turn None e t'' q = counts_nothing e t'' q
+    counts_turn (Some t') e t'' q = counts-logged t' e t'' q

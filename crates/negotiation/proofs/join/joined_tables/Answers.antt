@@ -31,7 +31,7 @@ gather-requires c =
 
 pub gather_bytes-requires : goal.gather_bytes-requires
 gather_bytes-requires c =
-    let weighs : c.args.job.now.terms.timed ≡ true = c.if-timed.true in
+    let weighs : c.args.job.now.terms.timed ≡ true = c.if-job.true in
     let low = places-below c.requires.joinable c.join_nets-count.ensures in
     record {
       count_in_bounds = (c.join_nets-count.ensures.within, few-bytes (goal.at.gather_bytes-requires c).After-join_nets-count);
@@ -40,17 +40,17 @@ gather_bytes-requires c =
           (sym (c.requires.criticality_len.0 weighs)) low;
     }
 
-pub returns-then-timed : goal.returns-then-timed
-returns-then-timed c =
+pub returns-then-job : goal.returns-then-job
+returns-then-job c =
     let bytes = c.gather_bytes in
-    let counted = (goal.at.returns-then-timed c).After-join_nets-count in
+    let counted = (goal.at.returns-then-job c).After-join_nets-count in
     let room : c.join_nets-count.result ≤ length c.gather.new.entries = omega (arith, few counted, c.requires.source_in_bounds.1, c.gather.auto.entries) in
     let room-too : c.join_nets-count.result ≤ length bytes.new.entries = omega (arith, few-bytes counted, bytes.auto.entries) in
     tables_joined c.requires.joinable c.join_nets-count.ensures room room-too (ends counted) c.gather.ensures (λ w. bytes.ensures)
 
-pub returns-else-timed : goal.returns-else-timed
-returns-else-timed c =
-    let counted = (goal.at.returns-else-timed c).After-join_nets-count in
+pub returns-else-job : goal.returns-else-job
+returns-else-job c =
+    let counted = (goal.at.returns-else-job c).After-join_nets-count in
     let room : c.join_nets-count.result ≤ length c.gather.new.entries = omega (arith, few counted, c.requires.source_in_bounds.1, c.gather.auto.entries) in
     tables_joined c.requires.joinable c.join_nets-count.ensures room (few-bytes counted) (ends counted) c.gather.ensures
-    (λ w. absurd (true≢false (sym w ∙ c.if-timed.false)))
+    (λ w. absurd (true≢false (sym w ∙ c.if-job.false)))

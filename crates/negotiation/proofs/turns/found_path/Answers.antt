@@ -5,16 +5,16 @@ use Rattle.negotiation.proofs.turns.found_path.Goals as goal
 
 pub returns-in-Ok : goal.returns-in-Ok
 returns-in-Ok c =
-    aimed_found c.requires.ready.0 _ c.requires.ready.1 _ c.if-aimed.true c.requires.back_lent c.in-Ok.is c.aimed_path.ensures.answers
+    aimed_found c.requires.ready.0 _ c.requires.ready.1 c.args.back.now c.if-aimed.true c.requires.back_lent c.in-Ok.is c.aimed_path.ensures.answers
 
 pub returns-in-Err : goal.returns-in-Err
 returns-in-Err c =
-    absurd (aimed_never c.requires.ready.0 _ c.requires.ready.1 _ c.if-aimed.true c.requires.back_lent c.in-Err.is c.aimed_path.ensures.answers)
+    absurd (aimed_never c.requires.ready.0 _ c.requires.ready.1 c.args.back.now c.if-aimed.true c.requires.back_lent c.in-Err.is c.aimed_path.ensures.answers)
 
-pub returns-in-Ok-2 : goal.returns-in-Ok-2
-returns-in-Ok-2 c =
-    plain_found c.requires.ready.0 _ c.requires.ready.1 c.if-aimed.false c.in-Ok.is c.cheapest_path.ensures.answers
+pub returns-in-Ok-cheapest_path : goal.returns-in-Ok-cheapest_path
+returns-in-Ok-cheapest_path c =
+    plain_found c.requires.ready.0 _ c.requires.ready.1 c.if-aimed.false c.in-Ok-cheapest_path.is c.cheapest_path.ensures.answers
 
-pub returns-in-Err-2 : goal.returns-in-Err-2
-returns-in-Err-2 c =
-    absurd (plain_never c.requires.ready.0 _ c.requires.ready.1 c.in-Err.is c.cheapest_path.ensures.answers)
+pub returns-in-Err-cheapest_path : goal.returns-in-Err-cheapest_path
+returns-in-Err-cheapest_path c =
+    absurd (plain_never c.requires.ready.0 _ c.requires.ready.1 c.in-Err-cheapest_path.is c.cheapest_path.ensures.answers)

@@ -22,11 +22,11 @@ use Rattle.negotiation.proofs.DemandLaws.{all-reached}
 use Rattle.negotiation.proofs.KeepLaws.{AtNet, AtTurns}
 use Rattle.negotiation.proofs.KeepProgress.{due-ready, over_used, users-long}
 use Rattle.negotiation.proofs.KeepStart.{keep_start, keep_due, keep_ready, keep_begun}
-use Rattle.negotiation.proofs.KeepTurn.{Lent, lent_tables, call_tried, call_turn, after_nothing, after-logged}
+use Rattle.negotiation.proofs.KeepTurn.{Lent, lent_tables, call_tried, call_turn, after_turn}
 use Rattle.negotiation.proofs.turns.KeepNet.{keep_end-ready, keep_ended}
 use Rattle.negotiation.proofs.turns.KeepEnd.{Answers, after_full, all-routed, history_long, keep_accepted, keep_limit, keep_growable, keep_below, keep_next}
-use Rattle.negotiation.proofs.turns.KeepCount.{Counts, CountsOn, counts_start, counts_same, counts-answer, counts_fit, counts_nothing, counts_full, counts-logged}
-use Rattle.negotiation.proofs.turns.go_on.Goals.{At-loop, At-loop-net, in-Ok-Some, in-Ok-None}
+use Rattle.negotiation.proofs.turns.KeepCount.{Counts, CountsOn, counts_start, counts_same, counts-answer, counts_fit, counts_turn, counts_full}
+use Rattle.negotiation.proofs.turns.go_on.Goals.{At-loop, At-loop-net}
 use Rattle.negotiation.proofs.turns.go_on.Goals as goal
 
 -- the nodes over capacity, as the code counts them
@@ -215,20 +215,12 @@ loop-preserved c =
     let one_less : c.begin_net-most.result - (c.loop.counter + 1) ≡ c.begin_net-most.result - c.loop.counter - 1 = omega arith in
     λ p W L m e o.
     let inv = c.loop.invariant p W L m e o in
-    elim c.match-net_turn.branch [
-      | in-Ok-None w ↦ (
-        rw one_less (after_nothing _ sound e inv.0 left (tables at) _ _ _ done.same_from _ done.answers w.in-Ok-None.is _ w.tariff-is),
-        λ k aimed ran h.
-            counts_nothing _ sound reachable e inv.0 left (tables at) _ _ _ done.same_from _ done.answers w.in-Ok-None.is _ w.tariff-is k aimed
-            ran (inv.1 k aimed ran h),
-      )
-      | in-Ok-Some w ↦ (
-        rw one_less (after-logged _ sound e inv.0 left (tables at) _ _ _ done.same_from _ done.answers _ w.in-Ok-Some.is _ w.tariff-is),
-        λ k aimed ran h.
-            counts-logged _ sound reachable e inv.0 left (tables at) _ _ _ done.same_from _ done.answers _ w.in-Ok-Some.is _ w.tariff-is k aimed
-            ran (inv.1 k aimed ran h),
-      )
-    ]
+    (
+      rw one_less (after_turn _ sound e inv.0 left (tables at) _ _ _ done.same_from _ done.answers _ c.in-Ok.is _ c.unwrap_or-tariff.ensures),
+      λ k aimed ran h.
+          counts_turn _ sound reachable e inv.0 left (tables at) _ _ _ done.same_from _ done.answers _ c.in-Ok.is _ c.unwrap_or-tariff.ensures k aimed ran
+          (inv.1 k aimed ran h),
+    )
 
 pub end_net-requires : goal.end_net-requires
 end_net-requires c =
@@ -266,18 +258,18 @@ returns-then-settled c =
       expanded = λ p m r ran. counts-answer (net_counted at p m r ran) c.answer.result answer.4 answer.3;
     }
 
-pub returns-then-tariff-terms : goal.returns-then-tariff-terms
-returns-then-tariff-terms c =
-    let at : At-loop-net = (goal.at.returns-then-tariff-terms c).At-loop-net in
+pub returns-then-tariff-job : goal.returns-then-tariff-job
+returns-then-tariff-job c =
+    let at : At-loop-net = (goal.at.returns-then-tariff-job c).At-loop-net in
     let sound = c.requires.ready.0.0 in
     let over = over-is _ sound _ c.over_count-over.ensures in
-    let result = c.answer-then-tariff-terms.result in
-    let answer = c.answer-then-tariff-terms.ensures in
+    let result = c.answer-then-tariff-job.result in
+    let answer = c.answer-then-tariff-job.ensures in
     let numbers : Answers result c.loop-net.tariff = record { iteration-is = answer.1; turns-is = answer.2; words-is = answer.3 } in
     record {
       answers = λ p r.
-          rw c.clear-then-tariff-terms.ensures
-          (keep_limit _ sound (whole at c.loop-net-test.false p r) _ over c.if-settled.false c.if-tariff-terms.true result answer.0 numbers);
+          rw c.clear-then-tariff-job.ensures
+          (keep_limit _ sound (whole at c.loop-net-test.false p r) _ over c.if-settled.false c.if-tariff-job.true result answer.0 numbers);
       expanded = λ p m r ran. counts-answer (net_counted at p m r ran) result answer.4 answer.3;
     }
 
@@ -296,14 +288,14 @@ grow_histories-requires c =
 pub next_iteration-tariff-requires : goal.next_iteration-tariff-requires
 next_iteration-tariff-requires c =
     let safe = whole_safe (goal.at.next_iteration-tariff-requires c).At-loop-net c.loop-net-test.false in
-    let b = keep_below _ c.requires.ready.0.0 safe c.if-tariff-terms.false in
+    let b = keep_below _ c.requires.ready.0.0 safe c.if-tariff-job.false in
     let l = c.requires.ready.0.0.limit_few in
     omega arith
 
 pub iterations-smaller : goal.iterations-smaller
 iterations-smaller c =
     let safe = whole_safe (goal.at.iterations-smaller c).At-loop-net c.loop-net-test.false in
-    let b = keep_below _ c.requires.ready.0.0 safe c.if-tariff-terms.false in
+    let b = keep_below _ c.requires.ready.0.0 safe c.if-tariff-job.false in
     let e = c.next_iteration-tariff.ensures.0 in
     let a = safe.under.iteration-is in
     let h = (c.iterations.invariant c.requires.ready.1.progress c.requires.ready.1.ready).1.under.iteration-is in
@@ -317,7 +309,7 @@ iterations-preserved c =
     let e = c.next_iteration-tariff.ensures in
     λ p r. (
       _,
-      keep_next _ sound (whole at c.loop-net-test.false p r) (λ z. c.if-settled.false (over ∙ z)) c.if-tariff-terms.false e.0 e.1 e.2 e.3
+      keep_next _ sound (whole at c.loop-net-test.false p r) (λ z. c.if-settled.false (over ∙ z)) c.if-tariff-job.false e.0 e.1 e.2 e.3
           c.grow_histories.ensures,
       λ k aimed ran h.
           counts_same aimed _ _ _ _ _ _ e.4 e.5 e.3 refl
@@ -330,7 +322,7 @@ returns c =
     let sound = c.requires.ready.0.0 in
     let enough = c.requires.ready.0.2 in
     let left : 0 < c.begin_net-most.result - c.loop.counter = omega (arith, c.loop-test.true) in
-    let none = c.in-Err.is in
+    let none = c.in_default.is in
     let done = c.net_turn.ensures in
     let result = c.answer-2.result in
     let answer = c.answer-2.ensures in

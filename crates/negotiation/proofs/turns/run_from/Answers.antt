@@ -34,8 +34,8 @@ pub start_at-requires : goal.start_at-requires
 start_at-requires c =
     (c.requires.ready.0.0, c.requires.ready.0.2, c.requires.ready.1)
 
-pub overflow_mul-kind : goal.overflow_mul-kind
-overflow_mul-kind c =
+pub overflow_mul-job : goal.overflow_mul-job
+overflow_mul-job c =
     let few = kinds-few c.args.job.now.block.kind.now c.requires.ready.0.0.block-sound.kinds_sound_lem in
     omega arith
 
