@@ -48,7 +48,7 @@ use Rattle.negotiation.proofs.take_up.TakeNetLaws.{on_err}
 
 -- ---- the iterations so far
 
--- they follow and lead to this progress, and the log goes on behind it
+-- they follow and lead to this progress, and the next one is followed
 pub record Taking (audit : Bool) (j : Job) (over : ℕ) (t : Tariff) (history users marks from to dues log : List ℕ) : Type 0 where
   pub progress : Progress
   pub left : ℕ

@@ -1,5 +1,5 @@
--- `negotiation::take_up::follow_nets` meets its contract: under any such terms and from any progress at which an iteration opens so, the nets passed follow
--- (`TakeNetLaws`). What is safe rests on the one that is asked for. The measure: nets left.
+-- `negotiation::take_up::follow_nets` meets its contract: from any progress at which an iteration opens so, the nets passed follow (`TakeNetLaws`). What is
+-- safe rests on the one that is asked for.
 -- Assumes nothing.
 use Prim.Native.Nat.{◌-◌, ◌*◌, ◌≤◌}
 use lib.ListN.{length}

@@ -1,5 +1,5 @@
--- `negotiation::take_up::take_up` meets its contract: at the loop's head the iterations passed follow and lead to a progress from which a run can go on, in the log
--- or behind it (`TakeLogLaws`). The measure: iterations up to the limit.
+-- `negotiation::take_up::take_up` meets its contract: at the loop's head the iterations passed follow and lead to a progress from which a run can go on in the log
+-- (`TakeLogLaws`). The measure: iterations up to the limit.
 -- Assumes nothing.
 use mathlib.Core.Path.{refl, sym, ◌∙◌, ap}
 use native.Mathlib.Nat.{le_of_eq, le_trans}
