@@ -19,14 +19,16 @@ use Rattle.search.specs.Turn.{Congestion, price_at, path_to, Turn, turn}
 use Rattle.search.specs.Aimed.{weight_at, alone, estimate, expanded_by, expanded}
 use Rattle.search.specs.Clamped.{clamped_price, clamped_weight}
 use Rattle.search.specs.ByTarget.{agreed, turned, Counted, ListsBack}
-use Rattle.search.specs.Replies.{cleared, PathReply, turn_path, read_off, turn_reply, fitting, path_due, path_refusal, path_numbers, path_reply_of, JoinsCheapest}
+use Rattle.search.specs.Replies.{cleared, PathReply, turn_path, read_off, turn_reply, fitting, path_due, refusal_numbers, path_reply_of, JoinsCheapest}
 use Rattle.search.specs.Priceable.{Fitted, PricesReady}
 use Rattle.search.specs.TurnWork.{path_in}
 use Rattle.search.specs.AimedTurn.{Started, TurnReady, SinksAimed, Readable, AimedRead, none, reads}
-use Rattle.search.specs.AimedReplies.{AimedPathReply, joined_reply, aimed_turn_reply, aimed_path_reply, aimed_path_reply_of}
-use Rattle.search.specs.declared.AimedPath.{AimedPath}
-use Rattle.search.specs.declared.PathAnswer.{PathAnswer}
-use Rattle.search.specs.declared.PathAnswer.TheVariants.{Joins, Stuck, BadTable, ShortWork, BadNumber, TooLarge}
+use Rattle.search.specs.AimedReplies.{AimedPathReply, joined_reply, aimed_turn_reply, aimed_path_reply, aimed_path_reply_of, joins_of}
+use Rattle.std.specs.Prelude.{Option, Some, None, Result, Ok, Err}
+use Rattle.search.specs.declared.AimedTurn.{AimedTurn}
+use Rattle.search.specs.declared.Joins.{Joins}
+use Rattle.search.specs.declared.Refusal.{Refusal}
+use Rattle.search.specs.declared.Refusal.TheVariants.{BadTable}
 use Rattle.search.proofs.BlockLaws.{graph_of_lem, kind_most_lem}
 use Rattle.search.proofs.EdgeLaws.{Shaped, shape_of, edge-node}
 use Rattle.search.proofs.TableOfLaws.{agreed-counted}
@@ -153,18 +155,18 @@ module _ (ks cs fs ts fb bs : List ℕ) (c : Congestion) (marks sinks : List ℕ
         reply_is e f = rw (e, ← f)
 
         pub turn_replies :
-            {r : PathAnswer} {n : ℕ} {w₃ : List ℕ} → AimedRead (length ks) marks sinks w₂ cost count r n w₃
-            → record { path = path_reply_of r w₃; expanded = n } ≡ aimed_turn_reply (block_of ks cs firsts targets) (graph_of ks backs sources) c marks sinks w₀
+            {r : Option Joins} {n : ℕ} {w₃ : List ℕ} → AimedRead (length ks) marks sinks w₂ cost count r n w₃
+            → record { path = path_reply_of (Ok r) w₃; expanded = n } ≡ aimed_turn_reply (block_of ks cs firsts targets) (graph_of ks backs sources) c marks sinks w₀
         unfolding cleared
         turn_replies (none e r n w) =
             let z = aimed_stuck (turn_end k) e in
             reply_is (rw (r, w, z.0, kept w₂ refl (λ j l. refl))) (z.1 ∙ sym n)
-        turn_replies (reads some moved read m d n w) =
+        turn_replies (reads some moved read m j is-j d n w) =
             let path : List ℕ = path_in (length ks) marks moved (get_or sinks d.place 0) in
             let is : path ≡ path_to (searched k) price marks (get_or sinks d.place 0) = read_path (turn_end k) some m d in
             let short : length path ≤ length ks = rw is (read_short (turn_end k) some m d) in
             let end = rest_cleared (length ks) path w₀ moved short (kept moved m.same.long (λ j l. m.same.high j (omega arith))) d.work w in
-            reply_is (rw (d.answer, read_turn (turn_end k) some m d, ← is, end)) (aimed_count (turn_end k) some ∙ sym n)
+            reply_is (rw (is-j, d.answer, read_turn (turn_end k) some m d, ← is, end)) (aimed_count (turn_end k) some ∙ sym n)
 
 -- ---- tables by target that belong to the block
 
@@ -262,43 +264,40 @@ module _ (ks cs fs ts fb bs : List ℕ) (back : ListsBack (block_of ks cs fs ts)
     left = read_off (length ks) (turn_path made) work
 
     -- the same answer with that work slice is the plain turn's
-    plain : (x : PathAnswer) {w' : List ℕ} → path_reply_of x w' ≡ joined_reply (length ks) work made → path_reply_of x left ≡ turn_reply (length ks) work made
+    plain : (x : Result (Option Joins) Refusal) {w' : List ℕ} → path_reply_of x w' ≡ joined_reply (length ks) work made → path_reply_of x left ≡ turn_reply (length ks) work made
     plain x e = ap (λ (y : PathReply). record { refusal = y.refusal; joined = y.joined; work = left }) e
 
-    plain_cheapest : (x : PathAnswer) {w' : List ℕ} → path_reply_of x w' ≡ joined_reply (length ks) work made → JoinsCheapest b (price_at b c) marks sinks x left
+    plain_cheapest : (x : Result (Option Joins) Refusal) {w' : List ℕ} → path_reply_of x w' ≡ joined_reply (length ks) work made → JoinsCheapest b (price_at b c) marks sinks x left
     plain_cheapest x e =
         let t = path-ready ks cs fs ts c sinks marks work due in
         path-cheapest ks cs fs ts c marks work sinks due x left
         (plain x e ∙ sym (path-turn b c marks sinks work t.1.0 t.1.1.1 t.1.1.0 t.0.nodes-sound t.0.factor_most_lem t.0.weighable))
 
-    joined-cheapest : (x : PathAnswer) {w' : List ℕ} → path_reply_of x w' ≡ joined_reply (length ks) work made → JoinsCheapest b (price_at b c) marks sinks x w'
-    joined-cheapest (Joins place cost count) {w'} e =
-        let j = joined-turn b c marks sinks work (length ks) left made place cost count (plain (Joins place cost count) e) in
+    joined-cheapest : (x : Result (Option Joins) Refusal) {w' : List ℕ} → path_reply_of x w' ≡ joined_reply (length ks) work made → JoinsCheapest b (price_at b c) marks sinks x w'
+    joined-cheapest (Ok (Some joined)) {w'} e =
+        let j = joined-turn b c marks sinks work (length ks) left made joined (plain (Ok (Some joined)) e) in
         let is : w' ≡ cleared (length ks) j.0 work = ap (λ (y : PathReply). y.work) e ∙ ap (λ (t : Turn). cleared (length ks) (turn_path t) work) j.1 in
-        let same : take count w' ≡ take count left = front_left (length ks) j.0 work j.2 is ∙ sym (read_front (length ks) j.0 work j.2 j.3) in
-        rw same (plain_cheapest (Joins place cost count) e)
-    joined-cheapest Stuck e = plain_cheapest Stuck e
-    joined-cheapest (BadTable table) e = tt
-    joined-cheapest (ShortWork needed) e = tt
-    joined-cheapest (BadNumber place) e = tt
-    joined-cheapest (TooLarge n) e = tt
+        let same : take joined.length w' ≡ take joined.length left = front_left (length ks) j.0 work j.2 is ∙ sym (read_front (length ks) j.0 work j.2 j.3) in
+        rw same (plain_cheapest (Ok (Some joined)) e)
+    joined-cheapest (Ok None) e = plain_cheapest (Ok None) e
+    joined-cheapest (Err refusal) e = tt
 
     pub aimed_cheapest :
-        (x : AimedPath) (w' : List ℕ) → aimed_path_reply_of x w' ≡ aimed_path_reply (block_of ks cs fs ts) (graph_of ks fb bs) c marks sinks work
-        → JoinsCheapest (block_of ks cs fs ts) (price_at (block_of ks cs fs ts) c) marks sinks x.answer w'
-    aimed_cheapest x w' e = joined-cheapest x.answer (ap (λ (y : AimedPathReply). y.path) (e ∙ aimed_sound))
+        (x : Result AimedTurn Refusal) (w' : List ℕ) → aimed_path_reply_of x w' ≡ aimed_path_reply (block_of ks cs fs ts) (graph_of ks fb bs) c marks sinks work
+        → JoinsCheapest (block_of ks cs fs ts) (price_at (block_of ks cs fs ts) c) marks sinks (joins_of x) w'
+    aimed_cheapest x w' e = joined-cheapest (joins_of x) (ap (λ (y : AimedPathReply). y.path) (e ∙ aimed_sound))
 
 -- ---- the whole call
 
 module _ (ks cs fs ts fb bs : List ℕ) (c : Congestion) (marks sinks work : List ℕ) where
   -- where every length is right the turn is the reply
   pub aimed_joined :
-      (r : AimedPath) (w' : List ℕ) → fitting (block_of ks cs fs ts) c marks sinks work ≡ true → length fb ≡ length ks + 1
+      (r : Result AimedTurn Refusal) (w' : List ℕ) → fitting (block_of ks cs fs ts) c marks sinks work ≡ true → length fb ≡ length ks + 1
       → ((firsts targets backs sources : List ℕ) → Counted (block_of ks cs fs ts) (graph_of ks fb bs) firsts targets backs sources
       → aimed_path_reply_of r w' ≡ aimed_turn_reply (block_of ks cs firsts targets) (graph_of ks backs sources) c marks sinks work)
       → (aimed_path_reply_of r w' ≡ aimed_path_reply (block_of ks cs fs ts) (graph_of ks fb bs) c marks sinks work)
       × (path_due (block_of ks cs fs ts) c marks sinks work ≡ [] → ListsBack (block_of ks cs fs ts) (graph_of ks fb bs)
-      → JoinsCheapest (block_of ks cs fs ts) (price_at (block_of ks cs fs ts) c) marks sinks r.answer w')
+      → JoinsCheapest (block_of ks cs fs ts) (price_at (block_of ks cs fs ts) c) marks sinks (joins_of r) w')
   unfolding aimed_path_reply
   aimed_joined r w' t long e =
       let is : aimed_path_reply_of r w' ≡ aimed_path_reply (block_of ks cs fs ts) (graph_of ks fb bs) c marks sinks work =
@@ -308,17 +307,17 @@ module _ (ks cs fs ts fb bs : List ℕ) (c : Congestion) (marks sinks work : Lis
   -- a wrong length of the first table by target is refused as table 3's
   pub aimed_short :
       fitting (block_of ks cs fs ts) c marks sinks work ≡ true → (length fb ≡ length ks + 1 → ⊥)
-      → (record { path = path_reply_of (BadTable 3) work; expanded = 0 } ≡ aimed_path_reply (block_of ks cs fs ts) (graph_of ks fb bs) c marks sinks work)
+      → (aimed_path_reply_of (Err (BadTable 3)) work ≡ aimed_path_reply (block_of ks cs fs ts) (graph_of ks fb bs) c marks sinks work)
       × (path_due (block_of ks cs fs ts) c marks sinks work ≡ [] → ListsBack (block_of ks cs fs ts) (graph_of ks fb bs)
-      → JoinsCheapest (block_of ks cs fs ts) (price_at (block_of ks cs fs ts) c) marks sinks (BadTable 3) work)
+      → JoinsCheapest (block_of ks cs fs ts) (price_at (block_of ks cs fs ts) c) marks sinks (Err (BadTable 3)) work)
   unfolding aimed_path_reply
   aimed_short t short = (rw (t, ne_eqb (length fb) (length ks + 1) short), λ due back. tt)
 
   -- where another one is wrong what is due is the reply, and something is
   pub aimed_refused :
-      (r : PathAnswer) → fitting (block_of ks cs fs ts) c marks sinks work ≡ false → path_refusal r ≡ path_due (block_of ks cs fs ts) c marks sinks work → path_numbers r ≡ []
-      → (record { path = path_reply_of r work; expanded = 0 } ≡ aimed_path_reply (block_of ks cs fs ts) (graph_of ks fb bs) c marks sinks work)
+      (r : Refusal) → fitting (block_of ks cs fs ts) c marks sinks work ≡ false → refusal_numbers r ≡ path_due (block_of ks cs fs ts) c marks sinks work
+      → (aimed_path_reply_of (Err r) work ≡ aimed_path_reply (block_of ks cs fs ts) (graph_of ks fb bs) c marks sinks work)
       × (path_due (block_of ks cs fs ts) c marks sinks work ≡ [] → ListsBack (block_of ks cs fs ts) (graph_of ks fb bs)
-      → JoinsCheapest (block_of ks cs fs ts) (price_at (block_of ks cs fs ts) c) marks sinks r work)
+      → JoinsCheapest (block_of ks cs fs ts) (price_at (block_of ks cs fs ts) c) marks sinks (Err r) work)
   unfolding aimed_path_reply
-  aimed_refused r t e n = (rw (t, e, n), λ due back. absurd (true≢false (sym (due-fitting ks cs fs ts c marks work sinks due) ∙ t)))
+  aimed_refused r t e = (rw (t, e), λ due back. absurd (true≢false (sym (due-fitting ks cs fs ts c marks work sinks due) ∙ t)))

@@ -1,4 +1,4 @@
--- A turn that aims, step by step: the loop that moves the predecessors, what its end says of the path, and what is read off.
+-- A turn that aims, step by step: what its end says of the path, and what is read off.
 -- Assumes nothing.
 use mathlib.Core.Bool.{true, false}
 use mathlib.Core.List.{List, [], ◌∷◌, ◌++◌, append_assoc}
@@ -26,7 +26,7 @@ use Rattle.search.specs.Replies.{sinks_most, cleared, read_off}
 use Rattle.search.specs.TurnWork.{trail, path_in, Leads, Found, Read}
 use Rattle.search.specs.Aiming.{AimDone}
 use Rattle.search.specs.AimedTurn.{PredecessorsMoved, Readable}
-use Rattle.search.specs.declared.PathAnswer.{PathAnswer}
+use Rattle.search.specs.declared.Joins.{Joins}
 use Rattle.search.proofs.EdgeLaws.{Shaped}
 use Rattle.search.proofs.StoreLaws.{store_here, store_other, same_none, same_store}
 use Rattle.search.proofs.BeforeLaws.{before_node, before_near}
@@ -37,32 +37,6 @@ use Rattle.search.proofs.PriceSameLaws.{beyond}
 use Rattle.search.proofs.TurnLaws.{turn_is}
 use Rattle.search.proofs.AimedLaws.{expands-near, before_expands, sink-expands}
 use Rattle.search.proofs.AimedExact.{Consistent}
-
--- ---- the loop that moves the predecessors
-
--- those of the nodes below i are moved
-pub record Moving (n : ℕ) (w w' : List ℕ) (i : ℕ) : Type 0 where
-  pub upto : i ≤ n
-  pub same : SameBut n (2 * n) w w'
-  pub here : (v : ℕ) → v < i → get_or w' (n + v) 0 ≡ get_or w (4 * n + v) 0
-
-pub moving_none : (n : ℕ) (w : List ℕ) → Moving n w w 0
-moving_none n w = record { upto = omega arith; same = same_none n (2 * n) w; here = λ v b. absurd (not-suc-le-zero b) }
-
-pub moving_more : {n : ℕ} {w w' : List ℕ} {i : ℕ} → 8 * n ≤ length w → i < n → Moving n w w' i → Moving n w (set w' (n + i) (get_or w' (4 * n + i) 0)) (i + 1)
-moving_more {n} {w} {w'} {i} h l s =
-    let x : ℕ = get_or w' (4 * n + i) 0 in
-    let is : get_or w' (4 * n + i) 0 ≡ get_or w (4 * n + i) 0 = s.same.high (4 * n + i) (omega arith) in
-    record {
-      upto = omega arith;
-      same = same_store n (2 * n) w w' (n + i) x (omega arith) (omega arith) s.same;
-      here = below_more (λ v. get_or (set w' (n + i) x) (n + v) 0 ≡ get_or w (4 * n + v) 0) i
-          (λ v b. store_other w' (n + i) x (n + v) (λ e. omega arith) ∙ s.here v b)
-          (store_here w' (n + i) x (omega (arith, s.same.long)) ∙ is);
-    }
-
-pub moving_all : {n : ℕ} {w w' : List ℕ} {i : ℕ} → n ≤ i → Moving n w w' i → PredecessorsMoved n w w'
-moving_all l s = record { same = s.same; here = λ v b. s.here v (omega arith) }
 
 -- ---- a trail goes by the predecessors of the nodes that it meets
 
@@ -257,7 +231,7 @@ module _ {b : Block} {price est : ℕ → ℕ} {marks sinks w : List ℕ} {cost 
           }
 
       -- what is read off is the turn
-      module _ {r : PathAnswer} {w₂ : List ℕ} (d : Read (nodes b) marks sinks w' cost r w₂) where
+      module _ {r : Joins} {w₂ : List ℕ} (d : Read (nodes b) marks sinks w' cost r w₂) where
         read_node : get_or sinks d.place 0 < nodes b
         read_node = d.first.node d.within
 

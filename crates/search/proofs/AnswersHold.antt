@@ -15,11 +15,10 @@ use Rattle.search.specs.Distance.{far, LeastCost, tree_has, distances, distance}
 use Rattle.search.specs.Turn.{Congestion, price_at, turn}
 use Rattle.search.specs.Clamped.{clamped_price}
 use Rattle.search.specs.Replies.{cleared, refusal_of, faulty_with_delays, faulty_with_sinks, SearchReply, search_unless_refused, timed_search_reply, search_reply_of, LeavesLeastCosts}
-use Rattle.search.specs.Replies.{PathReply, turn_reply, fitting, path_due, path_reply, path_refusal, path_numbers, path_reply_of, JoinsCheapest}
-use Rattle.search.specs.declared.SearchAnswer.{SearchAnswer}
-use Rattle.search.specs.declared.SearchAnswer.TheVariants as s
-use Rattle.search.specs.declared.PathAnswer.{PathAnswer}
-use Rattle.search.specs.declared.PathAnswer.TheVariants as p
+use Rattle.search.specs.Replies.{PathReply, turn_reply, fitting, path_due, path_reply, refusal_numbers, path_reply_of, JoinsCheapest}
+use Rattle.std.specs.Prelude.{Option, Some, None, Result, Ok, Err}
+use Rattle.search.specs.declared.Joins.{Joins}
+use Rattle.search.specs.declared.Refusal.{Refusal}
 use Rattle.price.proofs.TestLaws.{true≢false}
 use Rattle.search.proofs.BlockLaws.{graph_of_lem}
 use Rattle.search.proofs.EdgeLaws.{Shaped, shape_of}
@@ -68,17 +67,14 @@ module _ (ks cs fs ts : List ℕ) (c : Congestion) (marks work : List ℕ) where
       ap (λ (xs : List ℕ). get_or xs v 0) end ∙ get_or-append ds (replicate (8 * nodes block - length ds) 0 ++ drop (8 * nodes block) work) 0 v l ∙ within_entry ds 0 far v l in
       rw here (distance_least block price marks (shape_of block (graph_of_lem block sound)) fair v h)
 
-  pub search_least : (r : SearchAnswer) (w' : List ℕ) → search_reply_of r w' ≡ timed_search_reply block c marks work → LeavesLeastCosts block price marks r w'
+  pub search_least : (r : Result (Unit {0}) Refusal) (w' : List ℕ) → search_reply_of r w' ≡ timed_search_reply block c marks work → LeavesLeastCosts block price marks r w'
   unfolding timed_search_reply
-  search_least s.Done w' e =
+  search_least (Ok _) w' e =
       let u = search_unrefused (refusal_of (faulty_with_delays block c) (nodes block) c marks (length work)) _ work e refl in
       least-left u.0 u.1
-  search_least (s.BadTable table) w' e = tt
-  search_least (s.ShortWork needed) w' e = tt
-  search_least (s.BadNumber place) w' e = tt
-  search_least (s.TooLarge n) w' e = tt
+  search_least (Err _) w' e = tt
 
-  pub search_both : (r : SearchAnswer) (w' : List ℕ) → search_reply_of r w' ≡ timed_search_reply block c marks work → (search_reply_of r w' ≡ timed_search_reply block c marks work) × LeavesLeastCosts block price marks r w'
+  pub search_both : (r : Result (Unit {0}) Refusal) (w' : List ℕ) → search_reply_of r w' ≡ timed_search_reply block c marks work → (search_reply_of r w' ≡ timed_search_reply block c marks work) × LeavesLeastCosts block price marks r w'
   search_both r w' e = (e, search_least r w' e)
 
   -- ---- the cheapest path
@@ -97,14 +93,14 @@ module _ (ks cs fs ts : List ℕ) (c : Congestion) (marks work : List ℕ) where
       all-nodes : (i : ℕ) → i < length sinks → get_or sinks i 0 < nodes block
       all-nodes = sinks-nodes (nodes block) sinks (path-ready ks cs fs ts c sinks marks work none).1.1.1
 
-      joined-cheapest : (place cost n : ℕ) (w' : List ℕ) → path_reply_of (p.Joins place cost n) w' ≡ turn_reply (nodes block) work (turn block price marks sinks)
-          → CheapestPath block price (tree_has marks) sinks (get_or sinks place 0) cost (take n w')
-      joined-cheapest place cost n w' e =
-          let j = joined-turn block c marks sinks work (nodes block) w' (turn block price marks sinks) place cost n e in
-          let begins : take n w' ≡ j.0 = read_front (nodes block) j.0 work j.2 j.3 in
-          rw begins (joins-cheapest block price marks graph fair sinks all-nodes place cost j.0 j.1)
+      joined-cheapest : (j : Joins) (w' : List ℕ) → path_reply_of (Ok (Some j)) w' ≡ turn_reply (nodes block) work (turn block price marks sinks)
+          → CheapestPath block price (tree_has marks) sinks (get_or sinks j.place 0) j.cost (take j.length w')
+      joined-cheapest j w' e =
+          let t = joined-turn block c marks sinks work (nodes block) w' (turn block price marks sinks) j e in
+          let begins : take j.length w' ≡ t.0 = read_front (nodes block) t.0 work t.2 t.3 in
+          rw begins (joins-cheapest block price marks graph fair sinks all-nodes j.place j.cost t.0 t.1)
 
-      stuck-none : (w' : List ℕ) → path_reply_of p.Stuck w' ≡ turn_reply (nodes block) work (turn block price marks sinks) → NoPath block (tree_has marks) sinks
+      stuck-none : (w' : List ℕ) → path_reply_of (Ok None) w' ≡ turn_reply (nodes block) work (turn block price marks sinks) → NoPath block (tree_has marks) sinks
       stuck-none w' e =
           stuck_no_path block price marks graph fair sinks all-nodes
           (stuck-turn block c marks sinks work (nodes block) w' (turn block price marks sinks) e).0
@@ -115,13 +111,10 @@ module _ (ks cs fs ts : List ℕ) (c : Congestion) (marks work : List ℕ) where
           let r = path-ready ks cs fs ts c sinks marks work none in
           e ∙ path-turn block c marks sinks work sound r.1.1.1 r.1.1.0 r.0.nodes-sound r.0.factor_most_lem r.0.weighable
 
-      pub path-cheapest : (r : PathAnswer) (w' : List ℕ) → path_reply_of r w' ≡ path_reply block c marks sinks work → JoinsCheapest block price marks sinks r w'
-      path-cheapest (p.Joins place cost n) w' e = joined-cheapest place cost n w' (reply e)
-      path-cheapest p.Stuck w' e = stuck-none w' (reply e)
-      path-cheapest (p.BadTable table) w' e = tt
-      path-cheapest (p.ShortWork needed) w' e = tt
-      path-cheapest (p.BadNumber place) w' e = tt
-      path-cheapest (p.TooLarge n) w' e = tt
+      pub path-cheapest : (r : Result (Option Joins) Refusal) (w' : List ℕ) → path_reply_of r w' ≡ path_reply block c marks sinks work → JoinsCheapest block price marks sinks r w'
+      path-cheapest (Ok (Some j)) w' e = joined-cheapest j w' (reply e)
+      path-cheapest (Ok None) w' e = stuck-none w' (reply e)
+      path-cheapest (Err _) w' e = tt
 
       -- and every length is right
       pub due-fitting : fitting block c marks sinks work ≡ true
@@ -131,7 +124,7 @@ module _ (ks cs fs ts : List ℕ) (c : Congestion) (marks work : List ℕ) where
 
     -- where every length is right the turn is the reply
     pub path-turned :
-        (r : PathAnswer) (w' : List ℕ) → fitting block c marks sinks work ≡ true → path_reply_of r w' ≡ turn_reply (length ks) work (turn block (clamped_price ks cs c) marks sinks)
+        (r : Result (Option Joins) Refusal) (w' : List ℕ) → fitting block c marks sinks work ≡ true → path_reply_of r w' ≡ turn_reply (length ks) work (turn block (clamped_price ks cs c) marks sinks)
         → (path_reply_of r w' ≡ path_reply block c marks sinks work) × (path_due block c marks sinks work ≡ [] → JoinsCheapest block price marks sinks r w')
     unfolding path_reply
     path-turned r w' t e =
@@ -140,7 +133,7 @@ module _ (ks cs fs ts : List ℕ) (c : Congestion) (marks work : List ℕ) where
 
     -- where one is wrong what is due is the reply, and something is
     pub path-refused :
-        (r : PathAnswer) → fitting block c marks sinks work ≡ false → path_refusal r ≡ path_due block c marks sinks work → path_numbers r ≡ []
-        → (path_reply_of r work ≡ path_reply block c marks sinks work) × (path_due block c marks sinks work ≡ [] → JoinsCheapest block price marks sinks r work)
+        (r : Refusal) → fitting block c marks sinks work ≡ false → refusal_numbers r ≡ path_due block c marks sinks work
+        → (path_reply_of (Err r) work ≡ path_reply block c marks sinks work) × (path_due block c marks sinks work ≡ [] → JoinsCheapest block price marks sinks (Err r) work)
     unfolding path_reply
-    path-refused r t e n = (rw (t, e, n), λ none. absurd (true≢false (sym (due-fitting none) ∙ t)))
+    path-refused r t e = (rw (t, e), λ none. tt)

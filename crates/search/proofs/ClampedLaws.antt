@@ -2,19 +2,21 @@
 -- Assumes nothing.
 use mathlib.Core.Bool.{true}
 use mathlib.Core.List.{List}
-use mathlib.Core.Logic.{⊎_elim}
 use mathlib.Core.Path.{◌≡◌, sym, ◌∙◌, ap}
-use Prim.Native.Nat.{ℕ, ◌≤◌, ◌<◌}
+use Prim.Native.Nat.{ℕ, ◌≤◌, ◌<◌, min, max}
 use native.Mathlib.Nat.{le_trans}
 use native.Mathlib.Omega.{arith}
+use Rattle.std.proofs.lemmas.Bool.Decides.{nat_tests}
 use lib.ListN.{get_or}
-use borrow.Author.Tests.{lt-ltb, le-ltb}
 use Rattle.price.specs.Bounds.{base_most, kind_most, factor_most, others_most, capacity_most, delay_most, criticality_most}
 use Rattle.price.specs.Prices.{price_of}
-use Rattle.price.specs.Replies.{priced}
+use Rattle.std.specs.Prelude.{Result, Ok, Err}
+use Rattle.std.specs.Result.{result_unwrap_or}
+use Rattle.price.specs.Replies.{PriceReply, priced, price_reply_of}
 use Rattle.price.specs.Timed.{weighed, weighed_reply, history_bound, weighed_most, WeighedInBounds}
+use Rattle.price.specs.declared.BadNumber.{BadNumber}
 use Rattle.price.specs.declared.Weighting.{Weighting}
-use Rattle.price.proofs.TestLaws.{by_test, le_or_lt}
+use Rattle.price.proofs.TestLaws.{by_test}
 use Rattle.price.proofs.PriceLaws.{base_most_lem}
 use Rattle.price.proofs.TimedLaws.{bound-most, bound-least, weighed_timed, weighed-untimed, weighed-pos, weighed_most_lem, reply_delay, weighed-priced}
 use Rattle.search.specs.Block.{Block}
@@ -22,33 +24,28 @@ use Rattle.search.specs.Turn.{Congestion, congested_at, price_at}
 use Rattle.search.specs.Clamped.{clamped, clamped_weighting, clamped_price, clamped_base}
 
 module _ (low high x : ℕ) where
-  pub clamped_low : x < low → clamped low high x ≡ low
+  -- as the code has it, `x.clamp(low, high)`
+  pub clamped_both : low ≤ high → clamped low high x ≡ max low (min x high)
   unfolding clamped
-  clamped_low l = rw (lt-ltb x low l)
-
-  pub clamped_high : low ≤ x → high < x → clamped low high x ≡ high
-  unfolding clamped
-  clamped_high l h = rw (le-ltb x low l, lt-ltb high x h)
+  clamped_both b = grind (arith, nat_tests)
 
   pub clamped_in : low ≤ x → x ≤ high → clamped low high x ≡ x
-  unfolding clamped
-  clamped_in l h = rw (le-ltb x low l, le-ltb high x h)
+  clamped_in l h = omega (arith, clamped_both (omega arith))
 
   pub clamped-least : low ≤ high → low ≤ clamped low high x
-  clamped-least b =
-      ⊎_elim
-      (λ (l : low ≤ x).
-      ⊎_elim (λ (h : x ≤ high). rw (clamped_in l h) l) (λ (h : high < x). rw (clamped_high l h) b) (le_or_lt x high))
-      (λ (l : x < low). rw (clamped_low l) (omega arith))
-      (le_or_lt low x)
+  clamped-least b = omega (arith, clamped_both b)
 
   pub clamped-most : low ≤ high → clamped low high x ≤ high
-  clamped-most b =
-      ⊎_elim
-      (λ (l : low ≤ x).
-      ⊎_elim (λ (h : x ≤ high). rw (clamped_in l h) h) (λ (h : high < x). rw (clamped_high l h) (omega arith)) (le_or_lt x high))
-      (λ (l : x < low). rw (clamped_low l) b)
-      (le_or_lt low x)
+  clamped-most b = omega (arith, clamped_both b)
+
+-- `x.min(high)`
+pub clamped-min : (high x : ℕ) → clamped 0 high x ≡ min x high
+clamped-min high x = omega (arith, clamped_both 0 high x (omega arith))
+
+-- what an answer that is priced holds
+answer-value : (a : Result ℕ BadNumber) {p : ℕ} → price_reply_of a ≡ priced p → result_unwrap_or a 0 ≡ p
+answer-value (Ok q) e = ap (λ (x : PriceReply). x.price) e
+answer-value (Err bad) e = ap (λ (x : PriceReply). x.price) e
 
 -- a base cost is at most the largest
 pub base_light : (kinds : List ℕ) (v : ℕ) → clamped_base kinds v ≤ base_most
@@ -87,17 +84,35 @@ module _ (kinds capacities : List ℕ) (c : Congestion) (v : ℕ) where
   unfolding clamped_price
   clamped-fair = weighed_most_lem clamped-bounds
 
-  -- what the price answers to clamped numbers; the delay is read only where it is weighed
+  -- the price of the numbers as the code clamps them; the delay is read only where it is weighed
   module _ {w : Weighting} {k f o cap most h read d : ℕ} (ew : w ≡ clamped_weighting c.weighting)
-      (ek : k ≡ clamped 0 kind_most (get_or kinds v 0)) (ef : f ≡ clamped 0 factor_most c.factor) (eo : o ≡ clamped 0 others_most (get_or c.others v 0))
-      (ec : cap ≡ clamped 1 capacity_most (get_or capacities v 0)) (em : most ≡ history_bound c.weighting)
-      (eh : h ≡ clamped 1 most (get_or c.histories v 0)) (er : c.weighting.timed ≡ true → read ≡ get_or c.delays v 0) (ed : d ≡ clamped 0 delay_most read) where
-    pub clamped_reply : weighed_reply w k f o cap h d ≡ priced (clamped_price kinds capacities c v)
+      (ek : k ≡ min (get_or kinds v 0) kind_most) (ef : f ≡ min c.factor factor_most) (eo : o ≡ min (get_or c.others v 0) others_most)
+      (ec : cap ≡ max 1 (min (get_or capacities v 0) capacity_most)) (em : most ≡ history_bound c.weighting)
+      (eh : h ≡ max 1 (min (get_or c.histories v 0) most)) (er : c.weighting.timed ≡ true → read ≡ get_or c.delays v 0) (ed : d ≡ min read delay_most) where
+    clamped_reply : weighed_reply w k f o cap h d ≡ priced (clamped_price kinds capacities c v)
     unfolding clamped_price
     clamped_reply =
-        rw (ew, ek, ef, eo, ec, eh, em)
-        (reply_delay (clamped_weighting c.weighting) _ _ _ _ _ d (λ t. ed ∙ ap (clamped 0 delay_most) (er t))
+        rw (
+          ew,
+          ek,
+          ef,
+          eo,
+          ec,
+          eh,
+          em,
+          ← clamped-min kind_most (get_or kinds v 0),
+          ← clamped-min factor_most c.factor,
+          ← clamped-min others_most (get_or c.others v 0),
+          ← clamped_both 1 capacity_most (get_or capacities v 0) (omega arith),
+          ← clamped_both 1 (history_bound c.weighting) (get_or c.histories v 0) (bound-least c.weighting),
+        )
+        (reply_delay (clamped_weighting c.weighting) _ _ _ _ _ d (λ t. rw (ed, er t, clamped-min delay_most (get_or c.delays v 0)))
         ∙ weighed-priced (clamped_weighting c.weighting) _ _ _ _ _ _ clamped-bounds)
+
+    pub clamped_answer :
+        (a : Result ℕ BadNumber) {p : ℕ} → price_reply_of a ≡ weighed_reply w k f o cap h d → p ≡ result_unwrap_or a 0
+        → (p ≡ clamped_price kinds capacities c v) × (p ≤ weighed_most c.weighting)
+    clamped_answer a e is = let same = is ∙ answer-value a (e ∙ clamped_reply) in (same, rw same clamped-fair)
 
 -- clamped within bounds that it keeps, a weighting weighs the same
 weighed-same :

@@ -17,8 +17,8 @@ use Rattle.search.specs.Replies.{sinks_most, read_off, turn_reply, path_reply_of
 use Rattle.search.specs.Labels.{goal, label_at}
 use Rattle.search.specs.Spread.{Came, Spread}
 use Rattle.search.specs.TurnWork.{Leads, path_in, Found, Read}
-use Rattle.search.specs.declared.PathAnswer.{PathAnswer}
-use Rattle.search.specs.declared.PathAnswer.TheVariants.{Stuck}
+use Rattle.std.specs.Prelude.{Some, None, Ok}
+use Rattle.search.specs.declared.Joins.{Joins}
 use Rattle.search.proofs.EdgeLaws.{Shaped}
 use Rattle.search.proofs.DistanceLaws.{length-distances, distance_top}
 use Rattle.search.proofs.PathToLaws.{path-short}
@@ -90,7 +90,7 @@ module _ {b : Block} {price : ℕ → ℕ} {marks sinks w₀ w : List ℕ} {best
         stuck-is b price marks s.shaped s.fair sinks
         (λ j l out. le_antisymm (distance_top b price marks (get_or sinks j 0)) (rw none at (sink_above j l out)))
 
-    pub halted_stuck : {w' : List ℕ} → w' ≡ take 0 w ++ (replicate (3 * nodes b - 0) 0 ++ drop (3 * nodes b) w) → path_reply_of Stuck w' ≡ turn_reply (nodes b) w₀ (turn b price marks sinks)
+    pub halted_stuck : {w' : List ℕ} → w' ≡ take 0 w ++ (replicate (3 * nodes b - 0) 0 ++ drop (3 * nodes b) w) → path_reply_of (Ok None) w' ≡ turn_reply (nodes b) w₀ (turn b price marks sinks)
     unfolding read_off
     halted_stuck e = rw (turn-stuck, e, s.kept)
 
@@ -177,7 +177,7 @@ module _ {b : Block} {price : ℕ → ℕ} {marks sinks w₀ w : List ℕ} {best
         s.some
 
     -- what is read off is the turn
-    module _ {r : PathAnswer} {w' : List ℕ} (d : Read (nodes b) marks sinks w best r w') where
+    module _ {j : Joins} {w' : List ℕ} (d : Read (nodes b) marks sinks w best j w') where
       read_open : OpenAt (nodes b) marks sinks d.place
       read_open = open_at d.place d.within (d.first.node d.within) (d.first.label d.within)
 
@@ -201,6 +201,6 @@ module _ {b : Block} {price : ℕ → ℕ} {marks sinks w₀ w : List ℕ} {best
           d.first.earlier j l h (final.1 ∙ e))
           (le_or_lt (nodes b) (get_or sinks j 0)))
 
-      pub halted_joins : path_reply_of r w' ≡ turn_reply (nodes b) w₀ (turn b price marks sinks)
+      pub halted_joins : path_reply_of (Ok (Some j)) w' ≡ turn_reply (nodes b) w₀ (turn b price marks sinks)
       unfolding read_off
       halted_joins = rw (d.answer, turn-joins, ← path_in_lem d.place read_open read_label, d.work, s.kept)

@@ -22,8 +22,8 @@ use Rattle.search.specs.Labels.{goal, label_at, wait_at, key_at, beside_at}
 use Rattle.search.specs.Spread.{bare, bare_count, Spread, RunReady, SpreadStopped}
 use Rattle.search.specs.TurnWork.{TreeMarked, GoalsMarked, LeastGoal, Read}
 use Rattle.search.specs.Priceable.{Fitted}
-use Rattle.search.specs.declared.PathAnswer.{PathAnswer}
-use Rattle.search.specs.declared.PathAnswer.TheVariants.{Stuck}
+use Rattle.std.specs.Prelude.{Some, None, Ok}
+use Rattle.search.specs.declared.Joins.{Joins}
 use Rattle.search.proofs.GraphLaws.{turn-same}
 use Rattle.search.proofs.SpreadRun.{fair-clamped}
 use Rattle.search.proofs.HaltLaws.{OpenAt, Halted, halted_stuck, halted_joins}
@@ -206,8 +206,8 @@ module _ (ks cs fs ts : List ℕ) {c : Congestion} {marks sinks w₀ w₁ : List
 
 -- what the turn answers then
 module _ (ks cs fs ts : List ℕ) (c : Congestion) {marks sinks w₀ w : List ℕ} {best : ℕ} (s : Halted (graph_of ks fs ts) (clamped_price ks cs c) marks sinks w₀ w best) where
-  pub join_stuck : best ≡ far → {w' : List ℕ} → w' ≡ take 0 w ++ (replicate (3 * length ks - 0) 0 ++ drop (3 * length ks) w) → path_reply_of Stuck w' ≡ turn_reply (length ks) w₀ (turn (block_of ks cs fs ts) (clamped_price ks cs c) marks sinks)
+  pub join_stuck : best ≡ far → {w' : List ℕ} → w' ≡ take 0 w ++ (replicate (3 * length ks - 0) 0 ++ drop (3 * length ks) w) → path_reply_of (Ok None) w' ≡ turn_reply (length ks) w₀ (turn (block_of ks cs fs ts) (clamped_price ks cs c) marks sinks)
   join_stuck none e = rw (← turn-same ks cs fs ts (clamped_price ks cs c) marks sinks) (halted_stuck s none e)
 
-  pub join_joins : (best ≡ far → ⊥) → {r : PathAnswer} {w' : List ℕ} → Read (length ks) marks sinks w best r w' → path_reply_of r w' ≡ turn_reply (length ks) w₀ (turn (block_of ks cs fs ts) (clamped_price ks cs c) marks sinks)
+  pub join_joins : (best ≡ far → ⊥) → {j : Joins} {w' : List ℕ} → Read (length ks) marks sinks w best j w' → path_reply_of (Ok (Some j)) w' ≡ turn_reply (length ks) w₀ (turn (block_of ks cs fs ts) (clamped_price ks cs c) marks sinks)
   join_joins some d = rw (← turn-same ks cs fs ts (clamped_price ks cs c) marks sinks) (halted_joins s some d)

@@ -9,6 +9,7 @@
 --     ClampedLaws     numbers clamped within bounds, and the price over them
 --   * KeptLaws        a function's answer and the test that it computes; a flag that is kept over a list
 --   * TableLaws       how the tests of the tables decide
+--     TestedLaws      a test of tables as a result: what it refuses, and what it has shown
 --   * RowLaws         a row of table 4 keeps its rule, by the places of the table
 --   * PriceableLaws   what tests that pass have shown: lengths, sinks, a sound graph, prices within bounds and what the price answers
 --     PassLaws        a pass over a list that never leaves early
@@ -36,7 +37,7 @@
 --
 -- The work slice
 --     StoreLaws       a store at one place of a list
---     FillLaws        loops that clear or fill a part
+--     FillLaws        the first label of a node
 --     QueueLaws       the tournament tree
 --
 -- The plain search (Dijkstra): labels and a binary heap
@@ -62,6 +63,7 @@ pub mod EdgeLaws
 pub mod TableOfLaws
 pub mod KeptLaws
 pub mod TableLaws
+pub mod TestedLaws
 pub mod RowLaws
 pub mod PriceableLaws
 pub mod PassLaws

@@ -17,7 +17,8 @@ use Rattle.search.specs.Turn.{Congestion, price_at, Turn, joins, stuck, turn}
 use Rattle.search.specs.Clamped.{clamped_price}
 use Rattle.search.specs.Replies.{node_sound, sink_list_sound, PathReply, read_off, timed_fitting, fitting_lengths, lengths_fitting, fitting, turn_reply, path_reply, path_reply_of}
 use Rattle.search.specs.Priceable.{Weighable, PricesReady}
-use Rattle.search.specs.declared.PathAnswer.TheVariants.{Joins, Stuck}
+use Rattle.std.specs.Prelude.{Some, None, Ok}
+use Rattle.search.specs.declared.Joins.{Joins}
 use Rattle.search.proofs.BlockLaws.{graph_of_lem, capacities-long, first_edges-long}
 use Rattle.search.proofs.EdgeLaws.{shape_of}
 use Rattle.search.proofs.PriceableLaws.{ready-price, ready-long, ready-delays, sinks-few}
@@ -80,25 +81,25 @@ module _ (b : Block) (c : Congestion) (marks sinks work : List ℕ) where
         rw (fitting-sound, turn_price_lem b (clamped_price b.kinds b.capacities c) (price_at b c) price-clamped marks (shape_of b g) (fair-clamped b b.kinds b.capacities c g.few (λ t. (d t).few)) sinks)
 
   module _ (n : ℕ) (w' : List ℕ) (t : Turn) where
-    pub joined-turn : (place cost count : ℕ) → path_reply_of (Joins place cost count) w' ≡ turn_reply n work t → (path : List ℕ) × (t ≡ joins place cost path) × (count ≡ length path) × (w' ≡ read_off n path work)
-    joined-turn place cost count e = go t e
+    pub joined-turn : (j : Joins) → path_reply_of (Ok (Some j)) w' ≡ turn_reply n work t → (path : List ℕ) × (t ≡ joins j.place j.cost path) × (j.length ≡ length path) × (w' ≡ read_off n path work)
+    joined-turn j e = go t e
       where
-        go : (t : Turn) → path_reply_of (Joins place cost count) w' ≡ turn_reply n work t → (path : List ℕ) × (t ≡ joins place cost path) × (count ≡ length path) × (w' ≡ read_off n path work)
+        go : (t : Turn) → path_reply_of (Ok (Some j)) w' ≡ turn_reply n work t → (path : List ℕ) × (t ≡ joins j.place j.cost path) × (j.length ≡ length path) × (w' ≡ read_off n path work)
         go (joins p k path) e =
-            let numbers : (place ∷ cost ∷ count ∷ []) ≡ (p ∷ k ∷ length path ∷ []) = ap (λ (r : PathReply). r.joined) e in
-            let a : place ≡ p = cc in
-            let b : cost ≡ k = cc in
-            let c : count ≡ length path = cc in
+            let numbers : (j.place ∷ j.cost ∷ j.length ∷ []) ≡ (p ∷ k ∷ length path ∷ []) = ap (λ (r : PathReply). r.joined) e in
+            let a : j.place ≡ p = cc in
+            let b : j.cost ≡ k = cc in
+            let c : j.length ≡ length path = cc in
             (path, (cc), c, ap (λ (r : PathReply). r.work) e)
         go stuck e =
-            let numbers : (place ∷ cost ∷ count ∷ []) ≡ [] = ap (λ (r : PathReply). r.joined) e in
+            let numbers : (j.place ∷ j.cost ∷ j.length ∷ []) ≡ [] = ap (λ (r : PathReply). r.joined) e in
             let z : ◌≡◌ {A = ℕ} 0 1 = cc in
             absurd (omega arith)
 
-    pub stuck-turn : path_reply_of Stuck w' ≡ turn_reply n work t → (t ≡ stuck) × (w' ≡ read_off n [] work)
+    pub stuck-turn : path_reply_of (Ok None) w' ≡ turn_reply n work t → (t ≡ stuck) × (w' ≡ read_off n [] work)
     stuck-turn e = go t e
       where
-        go : (t : Turn) → path_reply_of Stuck w' ≡ turn_reply n work t → (t ≡ stuck) × (w' ≡ read_off n [] work)
+        go : (t : Turn) → path_reply_of (Ok None) w' ≡ turn_reply n work t → (t ≡ stuck) × (w' ≡ read_off n [] work)
         go (joins p k path) e =
             let numbers : [] ≡ (p ∷ k ∷ length path ∷ []) = ap (λ (r : PathReply). r.joined) e in
             let z : ◌≡◌ {A = ℕ} 0 1 = cc in

@@ -2,7 +2,7 @@
 -- Assumes nothing.
 use mathlib.Core.Bool.{true}
 use mathlib.Core.List.{List, []}
-use mathlib.Core.Path.{◌≡◌, sym, ◌∙◌, ap}
+use mathlib.Core.Path.{◌≡◌}
 use Prim.Native.Nat.{ℕ, ◌*◌, ◌≤◌}
 use native.Mathlib.Omega.{arith}
 use lib.ListN.{length}
@@ -12,9 +12,11 @@ use Rattle.price.proofs.TestLaws.{by_test}
 use Rattle.search.specs.Block.{Block, block_of, nodes}
 use Rattle.search.specs.Tables.{faulty_table, delays_sound, Sound}
 use Rattle.search.specs.Turn.{Congestion}
-use Rattle.search.specs.Replies.{refusal_of, search_refusal, sink_list_sound, faulty_with_delays, faulty_with_sinks}
+use Rattle.search.specs.Replies.{refusal_of, sink_list_sound, faulty_with_delays, faulty_with_sinks}
 use Rattle.search.specs.Priceable.{PricesReady}
-use Rattle.search.specs.declared.SearchAnswer.{SearchAnswer}
+use Rattle.std.specs.Prelude.{Ok}
+use Rattle.search.specs.Lent.{tested}
+use Rattle.search.proofs.TestedLaws.{tested_none}
 use Rattle.search.proofs.BlockLaws.{sound_of, kinds-few}
 use Rattle.search.proofs.ReadyLaws.{refusal-none, fault-none, delays-kept, passed_ready}
 
@@ -38,8 +40,8 @@ module _ (ks cs fs ts : List ℕ) (c : Congestion) (sinks : List ℕ) where
       let k = delays-kept (block_of ks cs fs ts) c z.0 in
       (sound_of (block_of ks cs fs ts) k.0, k.1, z.1)
 
-  pub path-few : {table : ℕ} → table ≡ faulty_with_sinks (block_of ks cs fs ts) c sinks → table ≡ 0 → length ks ≤ nodes_most
-  path-few found e = kinds-few ks (path-kept (sym found ∙ e)).0.kinds_sound_lem
+  pub path-few : {u : Unit {0}} → tested (faulty_with_sinks (block_of ks cs fs ts) c sinks) ≡ Ok u → length ks ≤ nodes_most
+  path-few e = kinds-few ks (path-kept (tested_none _ e)).0.kinds_sound_lem
 
   -- where nothing is refused every rule is kept
   pub path-ready :
@@ -49,11 +51,3 @@ module _ (ks cs fs ts : List ℕ) (c : Congestion) (sinks : List ℕ) where
       let passed = refusal-none _ _ _ _ _ none in
       let kept = path-kept passed.table_sound in
       (passed_ready ks cs fs ts c marks kept.0 kept.1 passed, (kept.0, (passed.work-long, kept.2)))
-
--- what is refused is due
-pub refused-is :
-    (ks cs fs ts : List ℕ) (c : Congestion) (sinks marks : List ℕ) (entries : ℕ) {table : ℕ} {r answer : SearchAnswer} → table ≡ faulty_with_sinks (block_of ks cs fs ts) c sinks
-    → search_refusal r ≡ refusal_of table (length ks) c marks entries → r ≡ answer
-    → search_refusal answer ≡ refusal_of (faulty_with_sinks (block_of ks cs fs ts) c sinks) (length ks) c marks entries
-refused-is ks cs fs ts c sinks marks entries found e is =
-    ap search_refusal (sym is) ∙ e ∙ ap (λ (t : ℕ). refusal_of t (length ks) c marks entries) found

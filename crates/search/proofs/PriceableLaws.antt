@@ -4,12 +4,11 @@
 --     sinks-few, sinks-nodes              a list of sinks keeps its rule
 --     bad_here, bad_nowhere               the lowest node whose numbers are bad
 --     sound-graph                         sound tables without capacities
---     ready-                              numbers within their bounds: each node's price, fair prices, marks
+--     ready-                              numbers within their bounds: each node's price, fair prices
 --     answered-price, answered-refused    what the price's answer says of a node that can be priced
 -- Assumes nothing.
 use mathlib.Core.Bool.{Bool, true, false, not}
 use mathlib.Core.List.{List, []}
-use mathlib.Core.Logic.{⊎_elim}
 use mathlib.Core.Path.{◌≡◌, sym, ◌∙◌}
 use Prim.Native.Nat.{ℕ, ◌+◌, ◌-◌, ◌≤◌, ◌<◌}
 use native.Mathlib.Nat.{le_trans}
@@ -20,9 +19,9 @@ use borrow.Author.Tests.{leb-true, ltb-true, eqb-true}
 use Rattle.price.specs.Bounds.{nodes_most, others_most, timed_nodes_most, delay_most}
 use Rattle.price.specs.Replies.{priced, price_reply_of}
 use Rattle.price.specs.Timed.{history_bound, weighed_most, weighed_reply}
-use Rattle.price.specs.declared.PriceAnswer.{PriceAnswer}
-use Rattle.price.specs.declared.PriceAnswer.TheVariants.{Price, Refused}
-use Rattle.price.proofs.TestLaws.{true≢false, both_left, both_right, le_or_lt}
+use Rattle.std.specs.Prelude.{Result, Ok, Err}
+use Rattle.price.specs.declared.BadNumber.{BadNumber}
+use Rattle.price.proofs.TestLaws.{true≢false, both_left, both_right}
 use Rattle.price.proofs.ListLaws.{every-at}
 use Rattle.price.proofs.BelowLaws.{first_below-is, first_below-all}
 use Rattle.price.proofs.ReplyLaws.{answer-priced, answer_not_refused}
@@ -197,13 +196,6 @@ module _ (ks cs fs ts : List ℕ) (c : Congestion) (marks : List ℕ) where
     pub ready-block-fair : Fair (block_of ks cs fs ts) (price_at (block_of ks cs fs ts) c)
     ready-block-fair = let f = ready-fair in record { ceiling = f.ceiling; low = f.low; fits = f.fits; pos = f.pos; most = f.most }
 
-    pub ready_marks : length ks ≤ length marks
-    ready_marks =
-        ⊎_elim
-        (λ (l : length ks ≤ length marks). l)
-        (λ (l : length marks < length ks). absurd (let m = (ready-node (length marks) l).has_mark in omega arith))
-        (le_or_lt (length ks) (length marks))
-
 -- ---- what the price's answer says of a node that is ready to be priced
 
 -- the delay is read only where it is weighed
@@ -215,12 +207,12 @@ module _ {kinds capacities : List ℕ} {c : Congestion} {v : ℕ} (ready : Price
   reply = reply_delay c.weighting _ _ _ _ _ d read ∙ weighed-priced c.weighting _ _ _ _ _ _ ready.bounds
 
   pub answered-price :
-      {r : PriceAnswer} {p : ℕ} → r ≡ Price p
+      {r : Result ℕ BadNumber} {p : ℕ} → r ≡ Ok p
       → price_reply_of r ≡ weighed_reply c.weighting (get_or kinds v 0) c.factor (get_or c.others v 0) (get_or capacities v 0) (get_or c.histories v 0) d
       → p ≡ price_at (block_of kinds capacities [] []) c v
   answered-price q e = answer-priced (e ∙ reply) q
 
   pub answered-refused :
-      {r : PriceAnswer} {place : ℕ} → r ≡ Refused place
+      {r : Result ℕ BadNumber} {bad : BadNumber} → r ≡ Err bad
       → price_reply_of r ≡ weighed_reply c.weighting (get_or kinds v 0) c.factor (get_or c.others v 0) (get_or capacities v 0) (get_or c.histories v 0) d → ⊥
   answered-refused q e = answer_not_refused (e ∙ reply) q

@@ -132,14 +132,8 @@ pub record Carrying (n : ℕ) (old w : List ℕ) (i : ℕ) : Type 0 where
 
 module _ (n : ℕ) (old w : List ℕ) (i : ℕ) where
   -- entry i is right too
-  pub carried : (x : ℕ) → x ≡ min (entry_at n w (2 * i)) (entry_at n w (2 * i + 1)) → entry_at n w i ≡ x → Carrying n old w i → Carrying n old w 0
-  carried x least e k =
-      record {
-        inner = omega (arith, k.inner);
-        room = k.room;
-        but = λ j l h d. queue_whole n w i k.but (e ∙ least) j l h;
-        same = k.same;
-      }
+  pub carried : (x : ℕ) → x ≡ min (entry_at n w (2 * i)) (entry_at n w (2 * i + 1)) → entry_at n w i ≡ x → Carrying n old w i → Tournament n w
+  carried x least e k = queue_whole n w i k.but (e ∙ least)
 
   -- entry i is put right, and the one above it may be wrong
   pub carried_up : (x : ℕ) → 0 < i → x ≡ min (entry_at n w (2 * i)) (entry_at n w (2 * i + 1)) → Carrying n old w i → Carrying n old (set w (n + i) x) (i / 2)
@@ -198,8 +192,8 @@ pub record Lowering (n : ℕ) (old w : List ℕ) (key i : ℕ) : Type 0 where
 
 module _ (n : ℕ) (old w : List ℕ) (key i : ℕ) (pos : 0 < i) where
   -- entry i is not above the key
-  pub lowered-all : entry_at n w i ≤ key → Lowering n old w key i → Lowering n old w key 0
-  lowered-all le k = record { carrying = carried n old w i _ refl (sym (k.below pos ∙ min-eq_left le)) k.carrying; below = λ h. absurd (omega arith) }
+  pub lowered-all : entry_at n w i ≤ key → Lowering n old w key i → Tournament n w
+  lowered-all le k = carried n old w i _ refl (sym (k.below pos ∙ min-eq_left le)) k.carrying
 
   -- entry i falls to the key, and the one above it may be above it too
   pub lowered_up : key < entry_at n w i → Lowering n old w key i → Lowering n old (set w (n + i) key) key (i / 2)

@@ -8,22 +8,27 @@ use lib.Dec.{leb}
 use lib.ListN.{length}
 use borrow.Author.Tests.{leb-false}
 use Rattle.price.specs.Bounds.{nodes_most}
-use Rattle.price.proofs.TestLaws.{by_test}
+use Rattle.price.proofs.TestLaws.{true≢false, by_test}
 use Rattle.search.specs.Block.{Block, block_of}
 use Rattle.search.specs.Tables.{faulty_table, Sound}
 use Rattle.search.specs.Distance.{distances}
 use Rattle.search.specs.Turn.{Congestion, congestion_of, price_at}
 use Rattle.search.specs.Replies.{cleared, refusal_of, search_refusal, SearchReply, search_reply, timed_search_reply, faulty_with_delays, search_reply_of}
-use Rattle.search.specs.declared.SearchAnswer.{SearchAnswer}
-use Rattle.search.specs.declared.SearchAnswer.TheVariants as answer
+use Rattle.std.specs.Prelude.{Result, Ok, Err, IsErr}
+use Rattle.search.specs.Lent.{tested}
+use Rattle.search.specs.declared.Refusal.{Refusal}
+use Rattle.search.specs.declared.Refusal.TheVariants.{BadTable, ShortWork, BadNumber, TooLarge}
 use Rattle.search.specs.Priceable.{PricesReady}
+use Rattle.search.proofs.TestedLaws.{tested_none}
 use Rattle.search.proofs.BlockLaws.{sound_of, kinds-few}
 use Rattle.search.proofs.ReadyLaws.{refusal-none, delays-kept, passed_ready}
 
 -- ---- what the tests before a search have shown
 
-pub few-nodes : (ks cs fs ts : List ℕ) (c : Congestion) {table : ℕ} → table ≡ faulty_with_delays (block_of ks cs fs ts) c → table ≡ 0 → length ks ≤ nodes_most
-few-nodes ks cs fs ts c lowest none = kinds-few ks (sound_of (block_of ks cs fs ts) (delays-kept (block_of ks cs fs ts) c (sym lowest ∙ none)).0).kinds_sound_lem
+pub few-nodes : (ks cs fs ts : List ℕ) (c : Congestion) {u : Unit {0}} → tested (faulty_with_delays (block_of ks cs fs ts) c) ≡ Ok u → length ks ≤ nodes_most
+few-nodes ks cs fs ts c sound =
+    let b : Block = block_of ks cs fs ts in
+    kinds-few ks (sound_of b (delays-kept b c (tested_none (faulty_with_delays b c) sound)).0).kinds_sound_lem
 
 -- where nothing is refused, a sound block and numbers within their bounds
 pub passed_search :
@@ -37,27 +42,24 @@ passed_search ks cs fs ts c marks entries none =
 
 -- ---- the search's reply
 
-module _ (ks cs fs ts : List ℕ) (c : Congestion) (marks : List ℕ) (entries : ℕ) {table : ℕ} (lowest : table ≡ faulty_with_delays (block_of ks cs fs ts) c)
-    (r : SearchAnswer) (found : search_refusal r ≡ refusal_of table (length ks) c marks entries) where
-  -- what is due
-  due : refusal_of (faulty_with_delays (block_of ks cs fs ts) c) (length ks) c marks entries ≡ search_refusal r
-  due = ap (λ (t : ℕ). refusal_of t (length ks) c marks entries) (sym lowest) ∙ sym found
-
-  pub search_ready : r ≡ answer.Done → PricesReady ks cs c marks × Sound (block_of ks cs fs ts) × (8 * length ks ≤ entries)
-  search_ready fine = passed_search ks cs fs ts c marks entries (due ∙ ap search_refusal fine)
-
-module _ (ks cs fs ts : List ℕ) (c : Congestion) (marks work : List ℕ) {table : ℕ} (lowest : table ≡ faulty_with_delays (block_of ks cs fs ts) c)
-    (r : SearchAnswer) (found : search_refusal r ≡ refusal_of table (length ks) c marks (length work)) where
+module _ (ks cs fs ts : List ℕ) (c : Congestion) (marks work : List ℕ) where
   -- a refusal leaves the work slice as it was
-  pub search_refused : {a : SearchAnswer} {k : ℕ} {rest : List ℕ} → r ≡ a → search_refusal a ≡ k ∷ rest → search_reply_of a work ≡ timed_search_reply (block_of ks cs fs ts) c marks work
+  pub search_refused :
+      (r : Result (Unit {0}) Refusal) → IsErr r → search_refusal r ≡ refusal_of (faulty_with_delays (block_of ks cs fs ts) c) (length ks) c marks (length work)
+      → search_reply_of r work ≡ timed_search_reply (block_of ks cs fs ts) c marks work
   unfolding timed_search_reply
-  search_refused e is = rw (due ks cs fs ts c marks (length work) lowest r found, e, is)
+  search_refused (Ok u) bad due = absurd (true≢false (sym bad))
+  search_refused (Err (BadTable table)) bad due = rw (← due)
+  search_refused (Err (ShortWork needed)) bad due = rw (← due)
+  search_refused (Err (BadNumber place)) bad due = rw (← due)
+  search_refused (Err (TooLarge n)) bad due = rw (← due)
 
   pub search_done_lem :
-      {work' : List ℕ} → r ≡ answer.Done → work' ≡ cleared (length ks) (distances (block_of ks cs fs ts) (price_at (block_of ks cs fs ts) c) marks) work
-      → search_reply_of answer.Done work' ≡ timed_search_reply (block_of ks cs fs ts) c marks work
+      {work' : List ℕ} → [] ≡ refusal_of (faulty_with_delays (block_of ks cs fs ts) c) (length ks) c marks (length work)
+      → work' ≡ cleared (length ks) (distances (block_of ks cs fs ts) (price_at (block_of ks cs fs ts) c) marks) work
+      → search_reply_of (Ok tt) work' ≡ timed_search_reply (block_of ks cs fs ts) c marks work
   unfolding timed_search_reply
-  search_done_lem e end = rw (due ks cs fs ts c marks (length work) lowest r found, e, end)
+  search_done_lem due end = rw (← due, end)
 
 -- ---- a search that weighs no delay
 

@@ -19,8 +19,8 @@ use Rattle.search.specs.Distance.{far}
 use Rattle.search.specs.Turn.{Congestion}
 use Rattle.search.specs.Paths.{any_price_most, Fair}
 use Rattle.search.specs.Clamped.{clamped_price, ListsLong}
-use Rattle.search.specs.Labels.{goal, label_at, from_at, wait_at, key_at, Waits, Heaped, Taken}
-use Rattle.search.specs.Spread.{bare, bare_count, Came, PlacePassed, EdgeLooked, EdgePast, Spread, SpreadOnward, EdgeRelaxed, RelaxReady, SettleReady, NodeSettled, RunReady, SpreadStopped}
+use Rattle.search.specs.Labels.{goal, label_at, from_at, wait_at, key_at, Waits, Taken}
+use Rattle.search.specs.Spread.{bare, bare_count, Came, PlacePassed, EdgeLooked, EdgePast, Spread, SpreadOnward, EdgeRelaxed, RelaxReady, SettleReady, NodeSettled, SpreadStopped}
 use Rattle.search.proofs.ClampedLaws.{clamped-pos, clamped-fair}
 use Rattle.search.proofs.EdgeLaws.{place_edge}
 use Rattle.search.proofs.HeapLaws.{first_least}
@@ -178,9 +178,6 @@ pub record LabelsRunning (b : Block) (price : ℕ → ℕ) (goals : Bool) (w₀ 
   pub spread : Spread b price goals w₀ w count level (nodes b) 0
   pub onward : SpreadOnward (nodes b) w₀ w far best
 
-pub run_start : {b : Block} {price : ℕ → ℕ} {goals : Bool} {w : List ℕ} {count step : ℕ} → RunReady b price goals w count step → LabelsRunning b price goals w w far count
-run_start {b} {price} {goals} {w} r = record { level = 0; spread = r.spread; onward = onward-none (nodes b) w far }
-
 -- a higher level, where every waiting node is as far
 raised : {b : Block} {price : ℕ → ℕ} {goals : Bool} {start w : List ℕ} {count level cur place : ℕ} (level' : ℕ) → Spread b price goals start w count level cur place
     → ((i : ℕ) → i < count → level' ≤ key_at (nodes b) w i) → ((v : ℕ) → v < nodes b → Came b price w level v → label_at w v < goal → label_at w (from_at (nodes b) w v) ≤ level')
@@ -238,11 +235,6 @@ module _ {b : Block} {price : ℕ → ℕ} {goals : Bool} {w₀ w : List ℕ} {b
 
     pub run_early : {step : ℕ} → best < label_at w (get_or w (nodes b) 0 / 65536) + step → SpreadStopped b price goals step w₀ w best
     run_early less = record { count = count; level = label_at w (get_or w (nodes b) 0 / 65536); spread = run_raised; onward = r.onward; stopped = inr less }
-
-    pub run_take : nodes b ≤ nodes_most → Heaped (nodes b) (count - 1 + 1) w × (nodes b < 65536)
-    run_take few =
-        let e : count - 1 + 1 ≡ count = omega arith in
-        (rw e r.spread.heap, omega arith)
 
     -- the first entry is taken out
     module _ {w₁ : List ℕ} (t : Taken (nodes b) (count - 1) w w₁) where

@@ -1,5 +1,5 @@
 -- Looking at an edge keeps what holds while labels spread.
---     label-heap, label-row           a label on a bare node leaves the heap in order, and its row can be looked at
+--     label-heap                      a label on a bare node leaves the heap in order
 --     pass-more                       one more place of a row is passed
 --     spread_lower, spread-label      a lower predecessor; a first label
 --     onward-none, onward_trans       what stays from step to step
@@ -19,14 +19,14 @@ use Rattle.price.proofs.TestLaws.{le_or_lt, true≢false, same_or_not}
 use Rattle.price.proofs.BelowLaws.{count_less, count_same}
 use Rattle.search.specs.Block.{Block, nodes, has_edge}
 use Rattle.search.specs.Labels.{goal, label_at, from_at, with_from, wait_at, key_at, beside_at, Waits, Heaped}
-use Rattle.search.specs.Spread.{bare, bare_count, Came, PlacePassed, EdgeLooked, EdgePast, Spread, SpreadOnward, labelled, Idle, Labelled, ends, waits, GoalMet, lowered, stays, EdgeRelaxed, beyond, labels, lowers, tree, RowReady, LabelReady}
+use Rattle.search.specs.Spread.{bare, bare_count, Came, PlacePassed, EdgeLooked, EdgePast, Spread, SpreadOnward, labelled, Idle, Labelled, ends, waits, GoalMet, lowered, stays, EdgeRelaxed, beyond, labels, lowers, tree, LabelReady}
 use Rattle.search.proofs.StoreLaws.{store_here, store_other}
 use Rattle.search.proofs.HeapLaws.{from_else, from_here, from_other, from_wait}
 
 -- ---- a label on a bare node
 
 module _ {n count u v : ℕ} {firsts w : List ℕ} (r : LabelReady n firsts w count u v) (d : ℕ) where
-  pub labelled-long : length (labelled n w u v d) ≡ length w
+  labelled-long : length (labelled n w u v d) ≡ length w
   labelled-long = length-set (set w v d) (n + v) (wait_at n (set w v d) v * 65536 + u) ∙ length-set w v d
 
   labelled_other : (j : ℕ) → (j ≡ v → ⊥) → (j ≡ n + v → ⊥) → get_or (labelled n w u v d) j 0 ≡ get_or w j 0
@@ -74,11 +74,8 @@ module _ {n count u v : ℕ} {firsts w : List ℕ} (r : LabelReady n firsts w co
     keyed = λ i l. labelled-beside i ∙ r.heap.keyed i l ∙ sym (labelled_key i l);
   }
 
-  pub label-heap : {w₁ : List ℕ} → w₁ ≡ labelled n w u v d → Heaped n count w₁ × ((count < n) × (v < n) × (n < 65536) × (label_at w₁ v ≡ d))
-  label-heap e = rw e (labelled-heap, (r.more, r.v_node, omega (arith, r.few), labelled-here))
-
-  pub label-row : {w₁ : List ℕ} → w₁ ≡ labelled n w u v d → RowReady n firsts w₁ v
-  label-row e = rw e (record { few = r.few; firsts-long = r.firsts-long; long = rw labelled-long (omega (arith, r.heap.long)); node = r.v_node })
+  pub label-heap : {w₁ : List ℕ} → w₁ ≡ labelled n w u v d → Heaped n count w₁
+  label-heap e = rw e labelled-heap
 
 -- what a first label leaves: v has label d from u and nothing else has changed, but that v may wait
 record Fresh (n : ℕ) (firsts targets : List ℕ) (goals : Bool) (u v d : ℕ) (w w' : List ℕ) (count count' : ℕ) : Type 0 where

@@ -95,16 +95,15 @@ fn run(
         let c = congestion_in prices.now in
         TurnReady b r c in_tree.now sinks.now work.old
         × ((w : List ℕ) × Started (length tables.now.kind.now) in_tree.now w work.old trees) }
-    ensures { (firsts targets backs sources : List ℕ) → do
-      let b = block_in tables.now
-      let r = back_in tables.now.kind.now back.now
-      let c = congestion_in prices.now
-      let marks = in_tree.now
-      let list = sinks.now
-      let before = work.old
-      let after = work.new
-      Counted b r firsts targets backs sources
-          → SinksAimed b r c marks list before after firsts targets backs sources result.cost result.expanded }
+    ensures { let b = block_in tables.now in
+        let r = back_in tables.now.kind.now back.now in
+        let c = congestion_in prices.now in
+        let marks = in_tree.now in
+        let list = sinks.now in
+        let before = work.old in
+        let after = work.new in
+        (firsts targets backs sources : List ℕ) → Counted b r firsts targets backs sources
+        → SinksAimed b r c marks list before after firsts targets backs sources result.cost result.expanded }
 {
     let n = tables.kind.len();
     let scale = estimate::scale_of(prices.weighting);
@@ -155,9 +154,7 @@ fn move_predecessors(work: &mut [u64], n: usize)
     requires { 8 * n ≤ length work.old }
     ensures { PredecessorsMoved n work.old work.new }
 {
-    for v in 0..n {
-        work[n + v] = work[4 * n + v];
-    }
+    work.copy_within(4 * n..5 * n, n);
 }
 
 // Leaves the path to the joined sink at the beginning of the work slice, and 0 in the rest of it.
@@ -197,15 +194,18 @@ pub fn join(
     requires { let b = block_in tables.now in
         let c = congestion_in prices.now in
         Fitted b c in_tree.now sinks.now work.old × (length back.now.first_back.now ≡ length tables.now.kind.now + 1) }
-    ensures { (firsts targets backs sources : List ℕ) → do
-      let kinds = tables.now.kind.now
-      let b = block_in tables.now
-      let r = back_in kinds back.now
-      let c = congestion_in prices.now
-      let a = block_of kinds tables.now.capacity.now firsts targets
-      let e = graph_of kinds backs sources
-      let reply = aimed_turn_reply a e c in_tree.now sinks.now work.old
-      Counted b r firsts targets backs sources → aimed_path_reply_of (Ok result) work.new ≡ reply }
+    ensures { let kinds = tables.now.kind.now in
+        let limits = tables.now.capacity.now in
+        let b = block_in tables.now in
+        let r = back_in kinds back.now in
+        let c = congestion_in prices.now in
+        let marks = in_tree.now in
+        let list = sinks.now in
+        let before = work.old in
+        let after = work.new in
+        (firsts targets backs sources : List ℕ) → Counted b r firsts targets backs sources
+        → aimed_path_reply_of (Ok result) after
+        ≡ aimed_turn_reply (block_of kinds limits firsts targets) (graph_of kinds backs sources) c marks list before }
 {
     let n = tables.kind.len();
     let trees = start(in_tree, work, n);

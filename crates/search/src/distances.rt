@@ -11,9 +11,9 @@ use crate::{Prices, Tables, fill, labels, turn};
 
 // Leaves the distances of all nodes at the beginning of the work slice.
 pub fn distances_from_tree(tables: &Tables, prices: &Prices, work: &mut [u64], in_tree: &[u8])
-    requires { let block = block_in tables.now in
+    requires { let t = tables.now in
         let congestion = congestion_in prices.now in
-        PricesReady tables.now.kind.now tables.now.capacity.now congestion in_tree.now × Sound block × (8 * length tables.now.kind.now ≤ length work.old) }
+        PricesReady t.kind.now t.capacity.now congestion in_tree.now × Sound (block_in t) × (8 * length t.kind.now ≤ length work.old) }
     ensures { let block = block_in tables.now in
         let congestion = congestion_in prices.now in
         let found = distances_of block (price_at block congestion) in_tree.now in

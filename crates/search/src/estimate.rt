@@ -188,13 +188,14 @@ pub fn give_sinks(
         × NoneGiven n w × (length head.old ≡ buckets) × ((b : ℕ) → b < buckets → get_or head.old b 0 ≡ 0) × (start.count ≡ 0)
         × (start.lacking ≡ lacking_in n w) × (n ≤ length in_tree.now)
         × ((v : ℕ) → v < n → (get_or in_tree.now v 0 ≡ 1 → ⊥) → dist_at w v ≡ far) }
-    ensures { ((sources : List ℕ) → do
-      let r = graph_of kind.now back.now.first_back.now sources
-      let list = sinks.now
-      let before = work.old
-      let base = clamped_base kind.now
-      SinksGiven r base scale in_tree.now list before work.new head.new result.count (length list))
-        × (result.lacking ≡ lacking_in (length kind.now) work.new) }
+    ensures { let firsts = back.now.first_back.now in
+        let list = sinks.now in
+        let before = work.old in
+        let after = work.new in
+        let base = clamped_base kind.now in
+        ((sources : List ℕ) → let r = graph_of kind.now firsts sources in
+        SinksGiven r base scale in_tree.now list before after head.new result.count (length list))
+        × (result.lacking ≡ lacking_in (length kind.now) after) }
 {
     let n = kind.len();
     let mut f = start;

@@ -23,8 +23,9 @@ pub const FAR: u64 = 18446744073709551615;
 // No label yet on a goal; elsewhere it is FAR. Every label is below both.
 pub const GOAL: u64 = 18446744073709551614;
 
-// How far the labels have spread: the least label of a goal, FAR where none has one, and how many nodes wait.
-#[derive(Clone, Copy)]
+// How far the labels have spread: the least label of a goal, FAR where none has one, and how many nodes wait. It is no Option, since FAR is
+// above every label: one comparison asks whether a goal has a label and how near it is.
+#[derive(Clone, Copy, Debug, PartialEq, Eq)]
 pub struct Reach {
     pub best: u64,
     pub count: usize,
@@ -87,8 +88,7 @@ fn matters(tables: &Tables, work: &[u64], w: usize) -> bool
         (n ≤ nodes_most) × (length tables.now.first_edge.now ≡ n + 1) × (n ≤ length work.now) }
     ensures { result ≡ false → w < length tables.now.kind.now → DeadEnd tables.now.first_edge.now work.now w }
 {
-    w < tables.kind.len()
-        && (tables.first_edge[w] < tables.first_edge[w + 1] || work[w] == GOAL)
+    w < tables.kind.len() && (tables.first_edge[w] < tables.first_edge[w + 1] || work[w] == GOAL)
 }
 
 // Some edge of v, as far as table 4 has its row, matters.
@@ -139,15 +139,14 @@ fn label(
     let best = met(work[v], d, r.best);
     work[v] = d;
     set_from(work, n, u, v);
-    let count = r.count;
     if has_to_wait(tables, goals, work, v) {
-        heap::add(work, n, count, v, d);
+        heap::add(work, n, r.count, v, d);
         return Reach {
             best,
-            count: count + 1,
+            count: r.count + 1,
         };
     }
-    Reach { best, count }
+    Reach { best, ..r }
 }
 
 // Node v has its label already, from its predecessor; u, of label d, takes that one's place where it is as near and lower. That it is as
@@ -252,18 +251,7 @@ pub fn settle_all(
         }
         let rest = r.count - 1;
         heap::take(work, n, rest);
-        let best = r.best;
-        r = settle(
-            tables,
-            prices,
-            goals,
-            work,
-            u,
-            Reach {
-                best: best,
-                count: rest,
-            },
-        );
+        r = settle(tables, prices, goals, work, u, Reach { count: rest, ..r });
     }
     r.best
 }

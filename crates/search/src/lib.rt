@@ -124,6 +124,7 @@ fn faulty_delays(weighting: Weighting, n: usize, delay: &[u16]) -> Result<(), Ba
 }
 
 // Tables 1 to 4 and in a timed turn the delays keep their rules, or the lowest table that doesn't is refused.
+#[tactic(auto, unfolding(crate::specs::Replies::faulty_with_delays))]
 fn faulty_with_delays(tables: &Tables, weighting: Weighting, delay: &[u16]) -> Result<(), BadTable>
     ensures { let turn : (ℕ → List ℕ → List ℕ → Congestion) = weighed_congestion weighting delay.now in
         ((factor : ℕ) (histories others : List ℕ)
@@ -213,6 +214,7 @@ pub fn timed_search(
 
 // Tables 1 to 4, the list of sinks and in a timed turn the delays keep their rules, or the lowest of tables 1 to 4 that doesn't is refused,
 // else 7 for the sinks, else 9 for the delays.
+#[tactic(auto, unfolding(crate::specs::Replies::faulty_with_sinks, crate::specs::Replies::faulty_with_delays))]
 fn faulty_with_sinks(
     tables: &Tables,
     weighting: Weighting,
@@ -249,6 +251,7 @@ fn refused(
 }
 
 // Every list has the length that its rule asks; in a timed turn there are few enough nodes, and a delay for each.
+#[tactic(auto, unfolding(crate::specs::Replies::fitting_lengths))]
 fn fits(tables: &Tables, prices: &Prices, entries: usize, in_tree: &[u8], sinks: &[u16]) -> bool
     ensures { let b = block_in tables.now in
         let c = congestion_in prices.now in

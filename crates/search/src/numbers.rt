@@ -14,6 +14,7 @@ use price::Weighting;
 const OTHERS_MOST: u16 = 511;
 
 // The history, others and tree mark of node v are there and within their bounds.
+#[tactic(auto, unfolding(crate::specs::Replies::node_sound))]
 fn node_sound(prices: &Prices, in_tree: &[u8], v: usize) -> bool
     ensures { result ≡ node_sound (congestion_in prices.now) in_tree.now v }
 {
@@ -40,6 +41,7 @@ fn bad_node(n: usize, prices: &Prices, in_tree: &[u8]) -> usize
 
 // Each node's history is there, from 1 to `most`. This loop and the next two go over one list each and never leave early: so they are
 // compiled to vector code.
+#[tactic(auto, using(crate::proofs::PassLaws::history_short, crate::proofs::PassLaws::history_next))]
 fn histories_sound(n: usize, most: u32, history: &[u32]) -> bool
     ensures { result ≡ all_below n (history_bounded most history.now) }
 {
@@ -48,13 +50,14 @@ fn histories_sound(n: usize, most: u32, history: &[u32]) -> bool
     }
     let mut fine = true;
     for v in 0..n {
-        fine = if history[v] < 1 { false } else { fine };
-        fine = if most < history[v] { false } else { fine };
+        fine &= 1 <= history[v];
+        fine &= history[v] <= most;
     }
     fine
 }
 
 // Each node's others is there and within its bound.
+#[tactic(auto, using(crate::proofs::PassLaws::bounded_short, crate::proofs::PassLaws::bounded_next))]
 fn others_sound(n: usize, others: &[u16]) -> bool
     ensures { result ≡ all_below n (bounded others_most others.now) }
 {
@@ -63,12 +66,13 @@ fn others_sound(n: usize, others: &[u16]) -> bool
     }
     let mut fine = true;
     for v in 0..n {
-        fine = if OTHERS_MOST < others[v] { false } else { fine };
+        fine &= others[v] <= OTHERS_MOST;
     }
     fine
 }
 
 // Each node's tree mark is there and 0 or 1.
+#[tactic(auto, using(crate::proofs::PassLaws::bounded_short, crate::proofs::PassLaws::bounded_next))]
 fn marks_sound(n: usize, in_tree: &[u8]) -> bool
     ensures { result ≡ all_below n (bounded 1 in_tree.now) }
 {
@@ -77,12 +81,13 @@ fn marks_sound(n: usize, in_tree: &[u8]) -> bool
     }
     let mut fine = true;
     for v in 0..n {
-        fine = if 1 < in_tree[v] { false } else { fine };
+        fine &= in_tree[v] <= 1;
     }
     fine
 }
 
 // Each node's history, others and tree mark is there and within its bounds.
+#[tactic(auto, using(crate::proofs::PassLaws::lists_all))]
 fn lists_sound(n: usize, prices: &Prices, in_tree: &[u8]) -> bool
     ensures { result ≡ leb n (bad_node n (congestion_in prices.now) in_tree.now) }
 {
@@ -106,6 +111,7 @@ fn bad_criticality(weighting: Weighting) -> bool
 }
 
 // The first refusal that is due once the tables keep their rules.
+#[tactic(auto, unfolding(crate::specs::Replies::refusal_of))]
 pub fn first_refusal(
     n: usize,
     prices: &Prices,

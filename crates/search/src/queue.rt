@@ -8,9 +8,7 @@ fn lesser_child(work: &[u64], n: usize, i: usize) -> u64
     requires { (i < n) × (3 * n ≤ length work.now) }
     ensures { result ≡ min (entry_at n work.now (2 * i)) (entry_at n work.now (2 * i + 1)) }
 {
-    let left = work[n + 2 * i];
-    let right = work[n + (2 * i + 1)];
-    if left < right { left } else { right }
+    work[n + 2 * i].min(work[n + (2 * i + 1)])
 }
 
 // Carries a change below entry i up, as far as it reaches.
@@ -22,11 +20,10 @@ fn carry_up(work: &mut [u64], n: usize, from: usize)
     while 0 < i {
         let least = lesser_child(work, n, i);
         if work[n + i] == least {
-            i = 0;
-        } else {
-            work[n + i] = least;
-            i = i / 2;
+            return;
         }
+        work[n + i] = least;
+        i /= 2;
     }
 }
 
@@ -38,11 +35,10 @@ fn lower_above(work: &mut [u64], n: usize, from: usize, key: u64)
     let mut i = from;
     while 0 < i {
         if work[n + i] <= key {
-            i = 0;
-        } else {
-            work[n + i] = key;
-            i = i / 2;
+            return;
         }
+        work[n + i] = key;
+        i /= 2;
     }
 }
 

@@ -4,7 +4,7 @@ ghost use Rattle.std.specs.Prelude.{◌≡◌, true, ◌≤◌, leb, length};
 ghost use Rattle.std.proofs.Math.Seq.{slice};
 ghost use Rattle.price.specs.Bounds.{nodes_most};
 ghost use Rattle.price.specs.Lists.{neighbours};
-ghost use Rattle.search.specs.Lent.{block_in, graph_in, tested};
+ghost use Rattle.search.specs.Lent.{block_in, tested};
 ghost use Rattle.search.specs.Tables.{kinds_sound, capacities_sound, first_edges_sound, edge_targets_sound, row_sound, faulty_table};
 ghost use Rattle.search.specs.Tables.{delays_sound};
 ghost use Rattle.search.specs.Replies.{sink_list_sound};
@@ -17,6 +17,7 @@ const KIND_MOST: u8 = 53;
 const DELAY_MOST: u16 = 1000;
 
 // Table 1: "kind, a byte a node: 1 to 4,096 nodes", by request 2.2 of kinds 0 to 53.
+#[tactic(auto, unfolding(crate::specs::Tables::kinds_sound))]
 fn kinds_sound(kind: &[u8]) -> bool
     ensures { result ≡ kinds_sound kind.now }
 {
@@ -25,12 +26,13 @@ fn kinds_sound(kind: &[u8]) -> bool
     }
     let mut fine = true;
     for k in kind {
-        fine = if KIND_MOST < *k { false } else { fine };
+        fine &= *k <= KIND_MOST;
     }
     fine
 }
 
 // Table 2: "capacity, a byte a node, 1 to 255."
+#[tactic(auto, unfolding(crate::specs::Tables::capacities_sound))]
 fn capacities_sound(n: usize, capacity: &[u8]) -> bool
     ensures { result ≡ capacities_sound n capacity.now }
 {
@@ -39,7 +41,7 @@ fn capacities_sound(n: usize, capacity: &[u8]) -> bool
     }
     let mut fine = true;
     for c in capacity {
-        fine = if *c < 1 { false } else { fine };
+        fine &= 1 <= *c;
     }
     fine
 }
@@ -50,16 +52,13 @@ fn never_falls(first_edge: &[u32]) -> bool
 {
     let mut fine = true;
     for v in 1..first_edge.len() {
-        fine = if first_edge[v] < first_edge[v - 1] {
-            false
-        } else {
-            fine
-        };
+        fine &= first_edge[v - 1] <= first_edge[v];
     }
     fine
 }
 
 // Table 3: "nodes + 1 entries: begins with 0, never falls, ends with table 4's length."
+#[tactic(auto, unfolding(crate::specs::Tables::first_edges_sound))]
 fn first_edges_sound(n: usize, edges: usize, first_edge: &[u32]) -> bool
     requires { n ≤ nodes_most }
     ensures { result ≡ first_edges_sound n edges first_edge.now }
@@ -80,8 +79,8 @@ fn row_sound(n: usize, edge_target: &[u16], from: usize, to: usize, u: usize) ->
     let mut low = 0;
     for e in from..to {
         let v = edge_target[e] as usize;
-        fine = if v < low { false } else { fine };
-        fine = if v == u { false } else { fine };
+        fine &= low <= v;
+        fine &= v != u;
         low = v + 1;
     }
     // They rise, so only the last has to be below n.
@@ -89,10 +88,11 @@ fn row_sound(n: usize, edge_target: &[u16], from: usize, to: usize, u: usize) ->
 }
 
 // Table 4, once table 3 keeps its rule.
+#[tactic(auto, unfolding(crate::specs::Tables::edge_targets_sound))]
 fn edge_targets_sound(tables: &Tables) -> bool
     requires { let t = tables.now in
         first_edges_sound (length t.kind.now) (length t.edge_target.now) t.first_edge.now ≡ true }
-    ensures { result ≡ edge_targets_sound (graph_in tables.now) }
+    ensures { result ≡ edge_targets_sound (block_in tables.now) }
 {
     let n = tables.kind.len();
     if EDGES_MOST < tables.edge_target.len() {
@@ -109,6 +109,7 @@ fn edge_targets_sound(tables: &Tables) -> bool
 }
 
 // Tables 1 to 4 keep their rules, or the lowest that doesn't is refused.
+#[tactic(auto, unfolding(crate::specs::Tables::faulty_table))]
 pub fn faulty_table(tables: &Tables) -> Result<(), BadTable>
     ensures { result ≡ tested (faulty_table (block_in tables.now)) }
 {
@@ -129,6 +130,7 @@ pub fn faulty_table(tables: &Tables) -> Result<(), BadTable>
 }
 
 // Table 9.
+#[tactic(auto, unfolding(crate::specs::Tables::delays_sound))]
 pub fn delays_sound(n: usize, delay: &[u16]) -> bool
     ensures { result ≡ delays_sound n delay.now }
 {
@@ -137,12 +139,13 @@ pub fn delays_sound(n: usize, delay: &[u16]) -> bool
     }
     let mut fine = true;
     for d in delay {
-        fine = if DELAY_MOST < *d { false } else { fine };
+        fine &= *d <= DELAY_MOST;
     }
     fine
 }
 
 // A list of sinks is short enough, and each is a node.
+#[tactic(auto, unfolding(crate::specs::Replies::sink_list_sound))]
 pub fn sink_list_sound(n: usize, sinks: &[u16]) -> bool
     ensures { result ≡ sink_list_sound n sinks.now }
 {

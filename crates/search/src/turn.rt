@@ -33,9 +33,7 @@ fn some_marked(in_tree: &[u8], from: usize, to: usize) -> bool
 {
     let mut some = false;
     for v in from..to {
-        if in_tree[v] == 1 {
-            some = true;
-        }
+        some |= in_tree[v] == 1;
     }
     some
 }

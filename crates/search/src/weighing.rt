@@ -9,9 +9,10 @@ pub fn history_bound(weighting: Weighting) -> u32
     ensures { result ≡ history_bound weighting }
 {
     if weighting.timed {
-        return price::TIMED_HISTORY_MOST;
+        price::TIMED_HISTORY_MOST
+    } else {
+        price::HISTORY_MOST
     }
-    price::HISTORY_MOST
 }
 
 // The delay of node v; it is read only where it is weighed.
@@ -19,8 +20,5 @@ pub fn delay_at(weighting: Weighting, delay: &[u16], v: usize) -> u32
     requires { weighting.timed ≡ true → v < length delay.now }
     ensures { weighting.timed ≡ true → result ≡ get_or delay.now v 0 }
 {
-    if weighting.timed {
-        return delay[v] as u32;
-    }
-    0
+    if weighting.timed { delay[v] as u32 } else { 0 }
 }

@@ -1,14 +1,15 @@
 -- A whole search: the tree is marked, its labels spread until nothing waits, and they are the distances of all nodes.
 -- Assumes nothing.
 use mathlib.Core.Bool.{true, false}
-use mathlib.Core.List.{List, [], ◌∷◌, ◌++◌}
+use mathlib.Core.List.{List, [], ◌++◌}
 use mathlib.Core.Logic.{⊎_elim, inl}
 use mathlib.Core.Path.{◌≡◌, refl, sym, ◌∙◌}
-use Prim.Native.Nat.{ℕ, zero, suc, ◌+◌, ◌-◌, ◌*◌, ◌≤◌, ◌<◌}
-use native.Mathlib.Nat.{not-suc-le-zero, le_of_suc-le-suc}
+use Prim.Native.Nat.{ℕ, ◌+◌, ◌-◌, ◌*◌, ◌≤◌, ◌<◌}
+use native.Mathlib.Nat.{not-suc-le-zero}
 use native.Mathlib.Omega.{arith}
 use lib.ListN.{length, get_or, take, drop, replicate}
 use lib.Seq.{length-take-le, get_or-take, ext_get_or}
+use Rattle.std.proofs.lemmas.Grind.{get_or_default_zero}
 use Rattle.price.specs.Lists.{every}
 use Rattle.price.proofs.TestLaws.{le_or_lt, never_true, true≢false}
 use Rattle.price.proofs.ListLaws.{drop-same}
@@ -32,12 +33,6 @@ use Rattle.search.proofs.PriceableLaws.{fitted}
 use Rattle.search.proofs.JoinLaws.{fitted-lent, join_ready, join_halts}
 use Rattle.search.proofs.PathReplyLaws.{fitting-sound, price-clamped}
 
--- within a list it does not matter what is read past its end
-within : (l : List ℕ) (i d d' : ℕ) → i < length l → get_or l i d ≡ get_or l i d'
-within [] i d d' h = absurd (not-suc-le-zero h)
-within (x ∷ xs) zero d d' h = refl
-within (x ∷ xs) (suc i) d d' h = within xs i d d' (le_of_suc-le-suc h)
-
 no_sinks : (n : ℕ) → sink_list_sound n [] ≡ true
 unfolding sink_list_sound every
 no_sinks n = refl
@@ -49,17 +44,17 @@ no_goals n w = record { same = same_none 0 n w; there = λ j l. absurd (not-suc-
 no_step : (n : ℕ) (price : ℕ → ℕ) (w : List ℕ) → LeastGoal n price [] w 0 0
 no_step n price w = record { most = omega arith; least = λ j l. absurd (not-suc-le-zero l) }
 
-module _ (ks cs fs ts : List ℕ) (c : Congestion) (marks w₀ : List ℕ) (sound : Sound (block_of ks cs fs ts)) (ready : PricesReady ks cs c marks) (long : 8 * length ks ≤ length w₀) where
+module _ {ks cs fs ts : List ℕ} {c : Congestion} {marks : List ℕ} (w₀ : List ℕ) (pre : PricesReady ks cs c marks × Sound (block_of ks cs fs ts) × (8 * length ks ≤ length w₀)) where
   search_fits : Fitted (block_of ks cs fs ts) c marks [] w₀
   search_fits =
       fitted (block_of ks cs fs ts) c marks [] w₀
-      (fitting-sound (block_of ks cs fs ts) c marks [] w₀ sound (no_sinks (length ks)) long ready.nodes-sound ready.factor_most_lem ready.weighable)
+      (fitting-sound (block_of ks cs fs ts) c marks [] w₀ pre.1 (no_sinks (length ks)) pre.2 pre.0.nodes-sound pre.0.factor_most_lem pre.0.weighable)
 
   pub search_lent : ListsLong ks cs c
   search_lent = fitted-lent ks cs fs ts search_fits
 
   pub search_marks : (length ks ≤ 4096) × (length ks ≤ length marks) × (3 * length ks ≤ length w₀)
-  search_marks = (search_fits.few, search_fits.marks_long, omega arith)
+  search_marks = (search_fits.few, search_fits.marks_long, omega (arith, pre.2))
 
   module _ {w₁ : List ℕ} {count : ℕ} (t : TreeMarked (length ks) marks w₀ w₁ count) where
     pub search_ready : RunReady (graph_of ks fs ts) (clamped_price ks cs c) false w₁ count 0
@@ -108,24 +103,21 @@ module _ (ks cs fs ts : List ℕ) (c : Congestion) (marks w₀ : List ℕ) (soun
       still-long : length w₂ ≡ length w₀
       still-long = r.onward.long ∙ t.long
 
-      pub search_room : (length ks ≤ 8 * length ks) × (8 * length ks ≤ length w₂)
-      search_room = (omega arith, omega (arith, still-long))
-
       -- clamped prices are the prices
       same-prices : distances (block_of ks cs fs ts) (clamped_price ks cs c) marks ≡ distances (block_of ks cs fs ts) (price_at (block_of ks cs fs ts) c) marks
       same-prices =
           distances-price (block_of ks cs fs ts) (clamped_price ks cs c) (price_at (block_of ks cs fs ts) c)
-          (price-clamped (block_of ks cs fs ts) c marks [] w₀ sound (no_sinks (length ks)) long ready.nodes-sound ready.factor_most_lem ready.weighable) marks
+          (price-clamped (block_of ks cs fs ts) c marks [] w₀ pre.1 (no_sinks (length ks)) pre.2 pre.0.nodes-sound pre.0.factor_most_lem pre.0.weighable) marks
 
       first_part : take (length ks) w₂ ≡ distances (block_of ks cs fs ts) (price_at (block_of ks cs fs ts) c) marks
       first_part =
           let found : List ℕ = distances (graph_of ks fs ts) (clamped_price ks cs c) marks in
-          let count : length (take (length ks) w₂) ≡ length ks = length-take-le (length ks) w₂ (omega (arith, still-long)) in
+          let count : length (take (length ks) w₂) ≡ length ks = length-take-le (length ks) w₂ (omega (arith, still-long, pre.2)) in
           let all : length (distances (graph_of ks fs ts) (clamped_price ks cs c) marks) ≡ length ks = length-distances (graph_of ks fs ts) (clamped_price ks cs c) marks in
           ext_get_or 0 (take (length ks) w₂) (distances (graph_of ks fs ts) (clamped_price ks cs c) marks) (count ∙ sym all)
           (λ i l.
           let h : i < length ks = omega arith in
-          get_or-take (length ks) w₂ i 0 h ∙ final i h ∙ within (distances (graph_of ks fs ts) (clamped_price ks cs c) marks) i far 0 (omega arith))
+          get_or-take (length ks) w₂ i 0 h ∙ final i h ∙ get_or_default_zero (distances (graph_of ks fs ts) (clamped_price ks cs c) marks) i far (omega arith))
           ∙ distances-same ks cs fs ts (clamped_price ks cs c) marks ∙ same-prices
 
       -- past 8 × nodes nothing was written

@@ -9,7 +9,7 @@ use mathlib.Core.List.{List}
 use mathlib.Core.Logic.{◌⊎◌, ⊎_elim, inr}
 use mathlib.Core.Path.{◌≡◌, refl, sym, ◌∙◌, ap, subst}
 use Prim.Native.Nat.{ℕ, ◌+◌, ◌-◌, ◌*◌, ◌%◌, ◌≤◌, ◌<◌, min}
-use native.Mathlib.Nat.{mul-le-mul, min-eq_left, min-eq_right}
+use native.Mathlib.Nat.{mul-le-mul}
 use native.Mathlib.Omega.{arith}
 use lib.Dec.{eqb}
 use lib.ListN.{length, get_or, set, length-set}
@@ -18,7 +18,6 @@ use Rattle.price.specs.Test.{choose}
 use Rattle.price.specs.Bounds.{base_most, kind_most, criticality_most}
 use Rattle.price.specs.Prices.{base_cost}
 use Rattle.price.specs.declared.Weighting.{Weighting}
-use Rattle.price.proofs.TestLaws.{le_or_lt}
 use Rattle.search.specs.Distance.{far}
 use Rattle.search.specs.Clamped.{clamped_base, clamped_scale, clamped_weighting}
 use Rattle.search.specs.Layout.{dist_at, link_at, estimate_at, Tournament, Queued}
@@ -27,19 +26,14 @@ use Rattle.search.specs.Estimates.{scale_most, level_most, key_most, reach_most,
 use Rattle.search.proofs.AimedLaws.{scale_timed, scale_untimed}
 use Rattle.search.proofs.StoreLaws.{store_here, store_other}
 use Rattle.search.proofs.QueueLaws.{queue-same}
-use Rattle.search.proofs.ClampedLaws.{clamped_in, clamped_high, clamped-most, base_light}
+use Rattle.search.proofs.ClampedLaws.{clamped-min, clamped-most, base_light}
 
 -- ---- base costs
 
 module _ (kinds : List ℕ) (v : ℕ) where
   base-clamped : base_cost (min (get_or kinds v 0) kind_most) ≡ clamped_base kinds v
   unfolding clamped_base
-  base-clamped =
-      ap base_cost
-      (⊎_elim
-      (λ (h : get_or kinds v 0 ≤ kind_most). min-eq_left h ∙ sym (clamped_in 0 kind_most (get_or kinds v 0) (omega arith) h))
-      (λ (h : kind_most < get_or kinds v 0). min-eq_right (omega arith) ∙ sym (clamped_high 0 kind_most (get_or kinds v 0) (omega arith) h))
-      (le_or_lt (get_or kinds v 0) kind_most))
+  base-clamped = ap base_cost (sym (clamped-min kind_most (get_or kinds v 0)))
 
   pub base-small : {r : ℕ} → r ≡ base_cost (min (get_or kinds v 0) kind_most) → r ≤ base_most
   base-small e = rw (e ∙ base-clamped) (base_light kinds v)

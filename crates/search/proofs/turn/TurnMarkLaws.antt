@@ -1,13 +1,14 @@
 -- What the loops before and after the labels keep from turn to turn: the tree's nodes, the goals, the least price of a goal, the first node of a label.
 -- Assumes nothing.
 use mathlib.Core.Bool.{Bool, true, false}
-use mathlib.Core.List.{List}
+use mathlib.Core.List.{List, ◌++◌}
 use mathlib.Core.Logic.{⊎_elim, inl, inr}
 use mathlib.Core.Path.{◌≡◌, refl, sym, ◌∙◌, ap}
 use Prim.Native.Nat.{ℕ, zero, suc, ◌+◌, ◌-◌, ◌*◌, ◌/◌, ◌≤◌, ◌<◌}
 use native.Mathlib.Numerals.{add-one}
 use native.Mathlib.Omega.{arith}
-use lib.ListN.{length, get_or, set, length-set}
+use Rattle.std.proofs.lemmas.Grind.{common_steps}
+use lib.ListN.{length, get_or, drop, replicate, set, length-set}
 use borrow.Author.Tests.{le-leb, lt-leb}
 use Rattle.price.specs.Test.{choose}
 use Rattle.price.specs.Lists.{count_below}
@@ -17,57 +18,20 @@ use Rattle.search.specs.Distance.{far, tree_has}
 use Rattle.search.specs.Paths.{any_price_most}
 use Rattle.search.specs.Labels.{goal, label_at, wait_at, beside_at, put, Waits}
 use Rattle.search.specs.Spread.{bare, bare_count}
-use Rattle.search.specs.TurnWork.{Blank, Unmarked, PassedOver, TreeMarked, GoalsMarked, LeastGoal}
+use Rattle.search.specs.TurnWork.{Blank, Unmarked, PassedOver, NextMarked, TreeMarked, GoalsMarked, LeastGoal}
 use Rattle.search.proofs.StoreLaws.{store_here, store_other, same_none, same_store}
 use Rattle.search.proofs.FillLaws.{first_tree, first_other}
 use Rattle.search.proofs.HeapLaws.{put-long, put_else, put-here, put-beside}
 
 -- ---- no labels
 
-pub blank_none : (n : ℕ) (w : List ℕ) → Blank n w w 0
-blank_none n w = record { same = same_none 0 n w; labels = λ v l. absurd (omega arith) }
-
-pub blank_more : {n : ℕ} {w w' : List ℕ} {i : ℕ} → n ≤ length w → i < n → Blank n w w' i → Blank n w (set w' i far) (i + 1)
-blank_more {n} {w} {w'} {i} enough l s = record {
-  same = same_store 0 n w w' i far (omega arith) l s.same;
-  labels = λ v h.
-      ⊎_elim
-      (λ (e : v ≡ i). rw e (store_here w' i far (omega (arith, s.same.long))))
-      (λ (d : v ≡ i → ⊥). store_other w' i far v d ∙ s.labels v (omega arith))
-      (same_or_not v i);
+pub blank_filled : (n : ℕ) (w : List ℕ) {w' : List ℕ} → n ≤ length w → w' ≡ replicate (n - 0) far ++ drop n w → Blank n w w' n
+blank_filled n w {w'} enough e = record {
+  same = record { long = grind (arith, common_steps, e); low = λ j l. absurd (omega arith); high = λ j l. grind (arith, common_steps, e) };
+  labels = λ v h. grind (arith, common_steps, e);
 }
 
-pub blank_all : {n : ℕ} {w w' : List ℕ} {i : ℕ} → n ≤ i → Blank n w w' i → Blank n w w' n
-blank_all l s = record { same = s.same; labels = λ v h. s.labels v (omega arith) }
-
 -- ---- stretches without a tree node
-
--- `some` is true where a node from `from` to below v is in the tree
-pub record MarksSeen (marks : List ℕ) (from to : ℕ) (some : Bool) (v : ℕ) : Type 0 where
-  pub least : from ≤ v
-  pub upto : v ≤ to
-  pub none : some ≡ false → Unmarked marks from v
-
-pub seen_none : (marks : List ℕ) (from to : ℕ) → from ≤ to → MarksSeen marks from to false from
-seen_none marks from to l = record { least = omega arith; upto = l; none = λ e v a b. absurd (omega arith) }
-
-module _ {marks : List ℕ} {from to : ℕ} {some : Bool} {v : ℕ} (l : v < to) (s : MarksSeen marks from to some v) where
-  pub seen_in : MarksSeen marks from to true (v + 1)
-  seen_in = record { least = omega (arith, s.least); upto = omega arith; none = λ e. absurd (true≢false e) }
-
-  pub seen-out : (get_or marks v 0 ≡ 1 → ⊥) → MarksSeen marks from to some (v + 1)
-  seen-out mark = record {
-    least = omega (arith, s.least);
-    upto = omega arith;
-    none = λ e x a b.
-        ⊎_elim
-        (λ (q : x ≡ v). rw q mark)
-        (λ (d : x ≡ v → ⊥). s.none e x a (omega arith))
-        (same_or_not x v);
-  }
-
-pub seen_all : {marks : List ℕ} {from to : ℕ} {some : Bool} {v : ℕ} → to ≤ v → MarksSeen marks from to some v → some ≡ false → Unmarked marks from to
-seen_all l s e x a b = s.none e x a (omega arith)
 
 pub over_none : (marks : List ℕ) (from n : ℕ) → from ≤ n → PassedOver marks from n from
 over_none marks from n l = record { least = omega arith; most = l; none = λ x a b. absurd (omega arith) }
@@ -85,6 +49,12 @@ over-on {marks} {from} {n} {v} v' l m none s = record {
 
 pub over_one : {marks : List ℕ} {from n v : ℕ} → v < n → (get_or marks v 0 ≡ 1 → ⊥) → PassedOver marks from n v → PassedOver marks from n (v + 1)
 over_one {marks} {from} {n} {v} l mark s = over-on (v + 1) (omega arith) (omega arith) (λ x a b. let e : x ≡ v = omega arith in rw e mark) s
+
+-- no tree node is left
+pub over_all : {marks : List ℕ} {from n v : ℕ} → n ≤ v → PassedOver marks from n v → NextMarked marks from n n
+over_all {marks} {from} {n} {v} end s =
+    let e : v ≡ n = omega (arith, s.most) in
+    record { over = rw e at s; marked = λ l. absurd (omega arith) }
 
 -- ---- the tree
 

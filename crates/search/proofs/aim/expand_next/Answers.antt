@@ -1,13 +1,7 @@
 -- `search::aim::expand_next` meets its contract: the node of least key leaves the queue, which leaves distances and estimates, and its row is looked at.
 -- Assumes nothing.
-use Rattle.search.proofs.aim.AimRows.{expand_ready, expanded, best_out, low-out}
+use Rattle.search.proofs.aim.AimRows.{expanded, best_out, low-out}
 use Rattle.search.proofs.aim.expand_next.Goals as goal
-
-pub aim_row-requires : goal.aim_row-requires
-aim_row-requires c =
-    let pre = c.requires in
-    let u = c.nearest-u.ensures in
-    (pre.0, pre.1, pre.2, expand_ready pre.3 u.0 u.1 c.wait.ensures)
 
 pub returns : goal.returns
 returns c =

@@ -2,20 +2,12 @@
 -- Assumes nothing.
 use mathlib.Core.Path.{◌≡◌, ◌∙◌}
 use native.Mathlib.Omega.{arith}
-use lib.ListN.{length-set}
 use Rattle.search.specs.Distance.{far}
 use Rattle.search.specs.Layout.{estimate_at}
-use Rattle.search.proofs.QueueLaws.{queue_way}
 use Rattle.search.proofs.aim.ShortenLaws.{same-estimate, shortened_lacks, shortened_waits}
 use Rattle.search.proofs.aim.BestLaws.{best_other, best_sink, low_other, low_lacks}
 use Rattle.search.proofs.aim.shorten.Goals.{Else-estimate}
 use Rattle.search.proofs.aim.shorten.Goals as goal
-
-pub bounds-work-n : goal.bounds-work-n
-bounds-work-n c = simp length-set (omega arith)
-
-pub bounds-work-n-2 : goal.bounds-work-n-2
-bounds-work-n-2 c = simp length-set (omega arith)
 
 pub returns-then-estimate : goal.returns-then-estimate
 returns-then-estimate c =
@@ -25,28 +17,13 @@ returns-then-estimate c =
     let none = c.if-estimate.true in
     let same = same-estimate a.n a.u a.v a.d a.work.now h room in
     let t = shortened_lacks a.n a.u a.v a.d a.work.now h room c.requires.u_lt_n.3 none in
-    (t, λ s. best_other h t s c.requires.u_lt_n.5 (λ z. omega arith), λ s. low_lacks h t s c.requires.u_lt_n.4 c.lesser.ensures)
+    (t, λ s. best_other h t s c.requires.u_lt_n.5 (λ z. omega arith), λ s. low_lacks h t s c.requires.u_lt_n.4 c.min.ensures)
 
 -- the node has an estimate
 known : (c : Else-estimate) → estimate_at c.args.n c.args.work.now c.args.v ≡ far → ⊥
 known c none =
     let a = c.args in
     c.if-estimate.false (same-estimate a.n a.u a.v a.d a.work.now c.requires.u_lt_n.1 c.requires.u_lt_n.2 ∙ none)
-
-pub overflow_add-d : goal.overflow_add-d
-overflow_add-d c =
-    let a = c.args in
-    let sum = c.requires.v_bound (known (goal.at.overflow_add-d c).Else-estimate) in
-    let same = same-estimate a.n a.u a.v a.d a.work.now c.requires.u_lt_n.1 c.requires.u_lt_n.2 in
-    record { fits = omega arith }
-
-pub wait-requires : goal.wait-requires
-wait-requires c =
-    let a = c.args in
-    (c.requires.u_lt_n.1, simp length-set (omega arith), queue_way a.n a.work.now a.u a.v a.d c.requires.u_lt_n.1 c.requires.u_lt_n.3)
-
-pub shape_of-work-then-estimate-eq0 : goal.shape_of-work-then-estimate-eq0
-shape_of-work-then-estimate-eq0 c = c.wait.ensures.long ∙ simp length-set
 
 pub returns-then-estimate-eq0 : goal.returns-then-estimate-eq0
 returns-then-estimate-eq0 c =
@@ -56,10 +33,7 @@ returns-then-estimate-eq0 c =
     let same = same-estimate a.n a.u a.v a.d a.work.now h room in
     let sink = c.if-estimate-eq0.true in
     let t = shortened_waits a.n a.u a.v a.d a.work.now h room c.if-estimate.false c.wait.ensures in
-    (t, λ s. best_sink h t s c.requires.u_lt_n.5 (omega arith) c.lesser-then-estimate-eq0.ensures, λ s. low_other h t s (known (goal.at.returns-then-estimate-eq0 c).Else-estimate))
-
-pub shape_of-work : goal.shape_of-work
-shape_of-work c = c.wait.ensures.long ∙ simp length-set
+    (t, λ s. best_sink h t s c.requires.u_lt_n.5 (omega arith) c.min-then-estimate-eq0.ensures, λ s. low_other h t s (known (goal.at.returns-then-estimate-eq0 c).Else-estimate))
 
 pub returns : goal.returns
 returns c =

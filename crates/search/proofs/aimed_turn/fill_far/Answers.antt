@@ -1,20 +1,17 @@
--- `search::aimed_turn::fill_far` meets its contract. The invariant: the entries up to k hold `far`. The measure is how many are left.
+-- `search::aimed_turn::fill_far` meets its contract: that part of the work slice is written over.
 -- Assumes nothing.
+use mathlib.Core.Path.{◌∙◌}
+use Prim.Native.Nat.{◌-◌}
 use native.Mathlib.Omega.{arith}
-use Rattle.search.proofs.aimed_turn.StartLaws.{fill_none, fill_more, fill_all}
+use lib.ListN.{get_or-replicate, length-replicate}
+use Rattle.search.specs.Distance.{far}
+use Rattle.search.proofs.StoreLaws.{part_same, part_here}
 use Rattle.search.proofs.aimed_turn.fill_far.Goals as goal
 
-pub loop-k-init : goal.loop-k-init
-loop-k-init c = fill_none _ c.requires.0
-
-pub bounds-work-k : goal.bounds-work-k
-bounds-work-k c = let l = c.loop-k.invariant.same.long in let p = c.requires.1 in omega arith
-
-pub loop-k-preserved : goal.loop-k-preserved
-loop-k-preserved c = fill_more c.requires.1 c.loop-k-test.true c.loop-k.invariant
-
-pub shape_of-work : goal.shape_of-work
-shape_of-work c = c.loop-k.invariant.same.long
-
 pub returns : goal.returns
-returns c = fill_all c.loop-k-test.false c.loop-k.invariant
+returns c =
+    let p = c.requires in
+    let e = c.fill.ensures in (
+      part_same _ _ p.0 p.1 (simp length-replicate) e,
+      λ j l h. part_here _ _ p.0 p.1 (simp length-replicate) e j l h ∙ get_or-replicate (c.args.to - c.args.from) (j - c.args.from) far 0 (omega arith),
+    )

@@ -1,13 +1,23 @@
--- `search::aimed_turn::move_predecessors` meets its contract: after the turns up to v, the predecessors of the nodes below v are moved.
+-- `search::aimed_turn::move_predecessors` meets its contract.
 -- Assumes nothing.
-use Rattle.search.proofs.AimedTurnLaws.{moving_none, moving_more, moving_all}
+use mathlib.Core.Path.{◌≡◌, ◌∙◌, ap}
+use Prim.Native.Nat.{ℕ, ◌+◌, ◌-◌, ◌*◌}
+use native.Mathlib.Omega.{arith}
+use lib.ListN.{get_or}
 use Rattle.search.proofs.aimed_turn.move_predecessors.Goals as goal
 
-pub loop-v-init : goal.loop-v-init
-loop-v-init c = moving_none _ _
-
-pub loop-v-preserved : goal.loop-v-preserved
-loop-v-preserved c = moving_more c.requires c.loop-v-test.true c.loop-v.invariant
-
 pub returns : goal.returns
-returns c = moving_all c.loop-v-test.false c.loop-v.invariant
+returns c =
+    let n = c.args.n in
+    let copied = c.copy_within.ensures.by_index in
+    record {
+      same =
+          record {
+            long = c.copy_within.ensures.len;
+            low = λ j l. copied.1 j 0 l;
+            high = λ j l. copied.2 j 0 (omega arith);
+          };
+      here = λ v l.
+          let place : 4 * n + (n + v - n) ≡ 4 * n + v = omega arith in
+          copied.0 (n + v) 0 (omega arith) (omega arith) ∙ ap (λ (j : ℕ). get_or c.args.work.now j 0) place;
+    }

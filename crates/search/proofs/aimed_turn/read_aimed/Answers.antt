@@ -6,12 +6,12 @@ use Rattle.search.proofs.AimedTurnLaws.{all-cleared}
 use Rattle.search.proofs.aimed_turn.read_aimed.Goals as goal
 
 pub returns-then-cost : goal.returns-then-cost
-returns-then-cost c = none c.if-cost.true refl refl (all-cleared _ _ c.clear.ensures)
+returns-then-cost c = none c.if-cost.true refl refl (all-cleared _ _ c.fill.ensures)
 
-pub read_path-answer-requires : goal.read_path-answer-requires
-read_path-answer-requires c =
+pub read_path-joins-requires : goal.read_path-joins-requires
+read_path-joins-requires c =
     c.requires.found c.if-cost.false _ c.move_predecessors.ensures
 
 pub returns : goal.returns
 returns c =
-    reads c.if-cost.false _ _ c.move_predecessors.ensures c.read_path-answer.ensures refl c.clear-2.ensures
+    reads c.if-cost.false _ _ c.move_predecessors.ensures _ refl c.read_path-joins.ensures refl c.fill-2.ensures

@@ -19,9 +19,9 @@ use Rattle.search.proofs.aimed_turn.run.Goals as goal
 -- what the turn is over
 abbrev Over : At-loop-f → List ℕ → Type 0
 Over c w =
-    TurnOver c.args.kind.now c.args.capacity.now c.args.first_edge.now c.args.edge_target.now
-    c.args.first_back.now c.args.back_source.now
-    (weighed_congestion c.args.weighting c.args.delay.now c.args.factor c.args.history.now c.args.others.now)
+    TurnOver c.args.tables.now.kind.now c.args.tables.now.capacity.now c.args.tables.now.first_edge.now c.args.tables.now.edge_target.now
+    c.args.back.now.first_back.now c.args.back.now.back_source.now
+    (weighed_congestion c.args.prices.now.weighting c.args.prices.now.delay.now c.args.prices.now.factor c.args.prices.now.history.now c.args.prices.now.others.now)
     c.args.in_tree.now c.args.sinks.now w c.scale_of-scale.result
 
 over : (c : At-loop-f) → Over c c.args.work.now
@@ -51,8 +51,8 @@ rise c =
     ]
 
 -- the least key is a number of 64 bits
-top : (c : After-done) → entry_at (length c.args.kind.now) c.loop-f.work 1 ≤ far
-top c = omega (arith, c.type_inv.work (length c.args.kind.now + 1))
+top : (c : After-done) → entry_at (length c.args.tables.now.kind.now) c.loop-f.work 1 ≤ far
+top c = omega (arith, c.type_inv.work (length c.args.tables.now.kind.now + 1))
 
 pub give_sinks-f-requires : goal.give_sinks-f-requires
 give_sinks-f-requires c =
@@ -143,7 +143,7 @@ pub loop-f-smaller-then-least-coming : goal.loop-f-smaller-then-least-coming
 loop-f-smaller-then-least-coming c =
     let at = goal.at.loop-f-smaller-then-least-coming c in
     let raised = turn_raised (state at.At-loop-f) (rise at.Joined-f-gt0) in
-    let n = length c.args.kind.now in
+    let n = length c.args.tables.now.kind.now in
     let fewer = turn_count_lem (loop-f-preserved-then-least-coming c c.args.work.now (over at.At-loop-f) (begun at.At-loop-f)) in
     falls_expanding n c.loop-f.expanded c.loop-f.f.count fewer
     (same_blanks raised.turning c.least_lacking-coming.ensures (top at.After-done) (c.done.ensures.goes c.if-done.false) c.if-least-coming.true
@@ -170,7 +170,7 @@ pub loop-f-smaller : goal.loop-f-smaller
 loop-f-smaller c =
     let at = goal.at.loop-f-smaller c in
     let raised = turn_raised (state at.At-loop-f) (rise at.Joined-f-gt0) in
-    falls_spreading (length c.args.kind.now) c.loop-f.expanded (spreading_falls raised.turning c.spread_next-f.ensures.0)
+    falls_spreading (length c.args.tables.now.kind.now) c.loop-f.expanded (spreading_falls raised.turning c.spread_next-f.ensures.0)
 
 pub scale_of-scale-requires : goal.scale_of-scale-requires
 scale_of-scale-requires c = tt

@@ -13,9 +13,9 @@ use Rattle.search.proofs.aimed_turn.run.Given as goal
 abbrev pub invariant-loop-f : goal.invariant-loop-f
 invariant-loop-f l =
     (w : List ℕ)
-    (o : TurnOver l.kind l.capacity l.first_edge l.edge_target l.first_back l.back_source (weighed_congestion l.weighting l.delay l.factor l.history l.others) l.in_tree l.sinks w l.scale)
+    (o : TurnOver l.tables.kind.now l.tables.capacity.now l.tables.first_edge.now l.tables.edge_target.now l.back.first_back.now l.back.back_source.now (weighed_congestion l.prices.weighting l.prices.delay.now l.prices.factor l.prices.history.now l.prices.others.now) l.in_tree l.sinks w l.scale)
     → Turning o l.initial.work l.initial.head l.initial.f.count l.initial.f.lacking far far 0 0 → Turning o l.work l.head l.f.count l.f.lacking l.r.best l.r.low l.level l.expanded
 
 abbrev pub decreases-loop-f : goal.decreases-loop-f
 decreases-loop-f l =
-    (length l.kind - l.expanded) + (blanks (length l.kind) l.work + l.f.count)
+    (length l.tables.kind.now - l.expanded) + (blanks (length l.tables.kind.now) l.work + l.f.count)

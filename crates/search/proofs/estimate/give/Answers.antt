@@ -27,53 +27,15 @@ module _ (c : After-wait_to_spread-count) where
       noted_queue (length a.kind.now) a.u (a.scale * a.estimate) a.work.now c.requires.0 c.requires.7.long c.wait_to_spread-count.ensures.1
       c.requires.8
 
-pub overflow_mul-left : goal.overflow_mul-left
-overflow_mul-left c =
-    let small = key_small c.requires.4 c.requires.5 in
-    omega arith
-
-pub wait_to_spread-count-requires : goal.wait_to_spread-count-requires
-wait_to_spread-count-requires c =
-    (c.requires.0, c.requires.1, simp length-set c.requires.7.long, c.requires.2, c.requires.3, c.requires.5, c.requires.6)
-
-pub bounds-work-u : goal.bounds-work-u
-bounds-work-u c =
-    let room = c.requires.7.long in
-    let h = c.requires.0 in
-    omega (arith, long (goal.at.bounds-work-u c).After-wait_to_spread-count)
-
-pub shape_of-work-then-d : goal.shape_of-work-then-d
-shape_of-work-then-d c = long (goal.at.shape_of-work-then-d c).After-wait_to_spread-count
-
 pub returns-then-d : goal.returns-then-d
 returns-then-d c =
     let spread = c.wait_to_spread-count.ensures in
     gave_far _ _ _ _ c.requires.0 c.requires.7.long spread.1 spread.0 _ c.requires.8 c.if-d.true
 
-pub overflow_add-d : goal.overflow_add-d
-overflow_add-d c =
-    record { fits = key_fits c.requires.7 c.requires.0 (dist (goal.at.overflow_add-d c).After-wait_to_spread-count) c.if-d.false (key_small c.requires.4 c.requires.5) }
-
-pub wait-requires : goal.wait-requires
-wait-requires c =
-    (c.requires.0, (let l = long (goal.at.wait-requires c).After-wait_to_spread-count in let room = c.requires.7.long in omega arith), queue (goal.at.wait-requires c).After-wait_to_spread-count)
-
-pub overflow_sub-lacking : goal.overflow_sub-lacking
-overflow_sub-lacking c =
-    c.requires.9 (sym (dist (goal.at.overflow_sub-lacking c).After-wait_to_spread-count) ∙ c.if-d-eq0.true)
-
-pub shape_of-work-then-d-eq0 : goal.shape_of-work-then-d-eq0
-shape_of-work-then-d-eq0 c =
-    c.wait.ensures.long ∙ long (goal.at.shape_of-work-then-d-eq0 c).After-wait_to_spread-count
-
 pub returns-then-d-eq0 : goal.returns-then-d-eq0
 returns-then-d-eq0 c =
     let spread = c.wait_to_spread-count.ensures in
     gave_tree _ _ _ _ c.requires.0 c.requires.7.long spread.1 spread.0 _ c.if-d.false c.wait.ensures c.if-d-eq0.true
-
-pub shape_of-work-else-d-eq0 : goal.shape_of-work-else-d-eq0
-shape_of-work-else-d-eq0 c =
-    c.wait.ensures.long ∙ long (goal.at.shape_of-work-else-d-eq0 c).After-wait_to_spread-count
 
 pub returns-else-d-eq0 : goal.returns-else-d-eq0
 returns-else-d-eq0 c =

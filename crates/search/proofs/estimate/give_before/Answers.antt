@@ -1,4 +1,4 @@
--- `search::estimate::give_before` meets its contract. The invariant: the places of v's row below e have been passed. The measure is how many are left.
+-- `search::estimate::give_before` meets its contract. The invariant: the places of v's row below e have been passed.
 -- Assumes nothing.
 use Prim.Native.Nat.{◌*◌, ◌≤◌, ◌<◌}
 use native.Mathlib.Omega.{arith}
@@ -12,12 +12,12 @@ use Rattle.search.proofs.ClampedLaws.{base_light}
 use Rattle.search.proofs.BucketLaws.{count_room}
 use Rattle.search.proofs.estimate.GiveLaws.{key_small}
 use Rattle.search.proofs.estimate.EstimateSteps.{lacking_is, lacking_some, sized-beside, row_begin, row_skip, row_more, row-end}
-use Rattle.search.proofs.estimate.give_before.Goals.{At-loop-e, then-u-n+then-work-n, then-u-n+else-work-n, else-u-n}
+use Rattle.search.proofs.estimate.give_before.Goals.{At-loop-e, then-u-n+then-work-n, else-u-n, else-u-n-via-then-u-n+else-work-n, else-u-n-via-else-u-n}
 use Rattle.search.proofs.estimate.give_before.Goals as goal
 
 -- what has been given so far, from the nodes that wait at the entry
 some : (c : At-loop-e)
-    → SomeGiven (graph_of c.args.kind.now c.args.first_back.now c.args.back_source.now) (clamped_base c.args.kind.now)
+    → SomeGiven (graph_of c.args.kind.now c.args.back.now.first_back.now c.args.back.now.back_source.now) (clamped_base c.args.kind.now)
     c.args.scale c.args.v c.args.estimate c.args.work.now c.loop-e.work c.args.head.now c.loop-e.head
     c.args.start.count c.loop-e.f.count c.requires.1.lined
 some c = (c.loop-e.invariant.0 c.requires.1.lined).some
@@ -31,9 +31,6 @@ small c = omega (arith, key_small c.requires.1.scale_most_lem c.requires.1.level
 pub loop-e-init : goal.loop-e-init
 loop-e-init c =
     (λ l. row_begin c.requires.1.queue c.row_place-e.ensures, c.requires.1.lacking_is)
-
-pub overflow_cast-u : goal.overflow_cast-u
-overflow_cast-u c = omega (arith, c.type_inv.back_source c.loop-e.e)
 
 pub bounds-work-n : goal.bounds-work-n
 bounds-work-n c =
@@ -69,8 +66,11 @@ loop-e-preserved c =
             λ l. row_more (inv.0 l) c.row_place-to.ensures c.loop-e-test.true (small (goal.at.loop-e-preserved c).At-loop-e) h (base_light _ _) bare made.0 made.1,
             lacking_is h bare (small (goal.at.loop-e-preserved c).At-loop-e) made.0 inv.1 made.2,
           )
-      | then-u-n+else-work-n w ↦ rw (w.work-is, w.head-is, w.f-is) (λ l. row_skip (inv.0 l) (λ h b. w.if-work-n.false b), inv.1)
-      | else-u-n w ↦ rw (w.work-is, w.head-is, w.f-is) (λ l. row_skip (inv.0 l) (λ h b. omega (arith, w.if-u-n.false)), inv.1)
+      | else-u-n w ↦
+          elim w.else-u-n.branch [
+            | else-u-n-via-then-u-n+else-work-n w' ↦ rw (w.work-is, w.head-is, w.f-is) (λ l. row_skip (inv.0 l) (λ h b. w'.if-work-n.false b), inv.1)
+            | else-u-n-via-else-u-n w' ↦ rw (w.work-is, w.head-is, w.f-is) (λ l. row_skip (inv.0 l) (λ h b. omega (arith, w'.if-u-n.false)), inv.1)
+          ]
     ]
 
 pub returns : goal.returns

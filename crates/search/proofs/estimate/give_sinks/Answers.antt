@@ -1,4 +1,4 @@
--- `search::estimate::give_sinks` meets its contract. The invariant: the unjoined sinks at places below i have estimate 0. The measure is how many sinks are left.
+-- `search::estimate::give_sinks` meets its contract. The invariant: the unjoined sinks at places below i have estimate 0.
 -- Assumes nothing.
 use mathlib.Core.List.{[]}
 use mathlib.Core.Path.{sym, ◌∙◌}
@@ -12,23 +12,20 @@ use Rattle.search.proofs.ClampedLaws.{base_light}
 use Rattle.search.proofs.BucketLaws.{count_room}
 use Rattle.search.proofs.estimate.EstimateSteps.{lacking_is, lacking_some, sized-beside}
 use Rattle.search.proofs.estimate.EstimateStart.{sinks-none, sinks_passed, stands_zero, sinks-more, sinks-all}
-use Rattle.search.proofs.estimate.give_sinks.Goals.{At-loop-i, then-s-n+then-in_tree-s-ne1+then-work-n, then-s-n+then-in_tree-s-ne1+else-work-n, then-s-n+else-in_tree-s-ne1, else-s-n}
+use Rattle.search.proofs.estimate.give_sinks.Goals.{At-loop-sink, then-s-n+then-in_tree-s-ne1+then-work-n, else-s-n, else-s-n-via-then-s-n+then-in_tree-s-ne1+else-work-n, else-s-n-via-then-s-n+else-in_tree-s-ne1, else-s-n-via-else-s-n}
 use Rattle.search.proofs.estimate.give_sinks.Goals as goal
 
-room : (c : At-loop-i) → (length c.args.kind.now ≤ nodes_most) × (8 * length c.args.kind.now ≤ length c.loop-i.work)
-room c = (c.requires.0, rw (c.loop-i.invariant.0 []).same.long c.requires.4.long)
+room : (c : At-loop-sink) → (length c.args.kind.now ≤ nodes_most) × (8 * length c.args.kind.now ≤ length c.loop-sink.work)
+room c = (c.requires.0, rw (c.loop-sink.invariant.0 []).same.long c.requires.4.long)
 
-pub loop-i-init : goal.loop-i-init
-loop-i-init c =
+pub loop-sink-init : goal.loop-sink-init
+loop-sink-init c =
     let pre = c.requires in
     (λ sources. rw pre.9 (sinks-none pre.6 pre.5 pre.7 pre.8), pre.10)
 
-pub overflow_cast-s : goal.overflow_cast-s
-overflow_cast-s c = omega (arith, c.type_inv.sinks c.loop-i.i)
-
 pub bounds-work-n : goal.bounds-work-n
 bounds-work-n c =
-    let r = room (goal.at.bounds-work-n c).At-loop-i in
+    let r = room (goal.at.bounds-work-n c).At-loop-sink in
     let h = c.if-s-n.true in
     omega arith
 
@@ -36,7 +33,7 @@ pub give-f-requires : goal.give-f-requires
 give-f-requires c =
     let h = c.if-s-n.true in
     let pre = c.requires in
-    let given = c.loop-i.invariant.0 [] in (
+    let given = c.loop-sink.invariant.0 [] in (
       h,
       pre.0,
       given.lined.waiting.heads,
@@ -46,12 +43,12 @@ give-f-requires c =
       count_room given.lined _ h c.if-work-n.true,
       sized-beside pre.4 given.same,
       given.queue,
-      lacking_some _ _ c.loop-i.work h c.if-work-n.true c.loop-i.invariant.1,
+      lacking_some _ _ c.loop-sink.work h c.if-work-n.true c.loop-sink.invariant.1,
     )
 
-pub loop-i-preserved : goal.loop-i-preserved
-loop-i-preserved c =
-    let inv = c.loop-i.invariant in
+pub loop-sink-preserved : goal.loop-sink-preserved
+loop-sink-preserved c =
+    let inv = c.loop-sink.invariant in
     elim c.if-s-n.branch [
       | then-s-n+then-in_tree-s-ne1+then-work-n w ↦
           let h = w.if-s-n.true in
@@ -59,25 +56,27 @@ loop-i-preserved c =
           let bare = w.if-work-n.true in
           let made = w.give-f.ensures in
           rw (w.work-is, w.head-is, w.f-is) (
-            λ sources. sinks-more (inv.0 sources) c.loop-i-test.true h out bare (base_light _ _) (c.requires.12 _ h out) made.0 made.1,
+            λ sources. sinks-more (inv.0 sources) c.loop-sink-test.true h out bare (base_light _ _) (c.requires.12 _ h out) made.0 made.1,
             lacking_is h bare (omega arith) made.0 inv.1 made.2,
           )
-      | then-s-n+then-in_tree-s-ne1+else-work-n w ↦
-          rw (w.work-is, w.head-is, w.f-is) (λ sources. sinks_passed (inv.0 sources) (λ h o. stands_zero (inv.0 sources) _ h w.if-work-n.false), inv.1)
-      | then-s-n+else-in_tree-s-ne1 w ↦
+      | else-s-n w ↦
           rw (w.work-is, w.head-is, w.f-is) (
-            λ sources. sinks_passed (inv.0 sources) (λ h o. absurd (true≢false (sym (in_the_tree _ _ w.if-in_tree-s-ne1.false) ∙ o))),
+            λ sources.
+                sinks_passed (inv.0 sources)
+                (elim w.else-s-n.branch [
+                  | else-s-n-via-then-s-n+then-in_tree-s-ne1+else-work-n w' ↦ λ h o. stands_zero (inv.0 sources) _ h w'.if-work-n.false
+                  | else-s-n-via-then-s-n+else-in_tree-s-ne1 w' ↦ λ h o. absurd (true≢false (sym (in_the_tree _ _ w'.if-in_tree-s-ne1.false) ∙ o))
+                  | else-s-n-via-else-s-n w' ↦ λ h o. absurd (omega (arith, w'.if-s-n.false))
+                ]),
             inv.1,
           )
-      | else-s-n w ↦
-          rw (w.work-is, w.head-is, w.f-is) (λ sources. sinks_passed (inv.0 sources) (λ h o. absurd (omega (arith, w.if-s-n.false))), inv.1)
     ]
 
 pub shape_of-work : goal.shape_of-work
-shape_of-work c = (c.loop-i.invariant.0 []).same.long
+shape_of-work c = (c.loop-sink.invariant.0 []).same.long
 
 pub shape_of-head : goal.shape_of-head
-shape_of-head c = (c.loop-i.invariant.0 []).lined.waiting.heads ∙ sym c.requires.7
+shape_of-head c = (c.loop-sink.invariant.0 []).lined.waiting.heads ∙ sym c.requires.7
 
 pub returns : goal.returns
-returns c = (λ sources. sinks-all (c.loop-i.invariant.0 sources) c.loop-i-test.false, c.loop-i.invariant.1)
+returns c = (λ sources. sinks-all (c.loop-sink.invariant.0 sources) c.loop-sink-test.false, c.loop-sink.invariant.1)

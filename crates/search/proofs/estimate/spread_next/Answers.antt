@@ -8,7 +8,7 @@ use Rattle.search.proofs.estimate.spread_next.Goals as goal
 
 -- the edges by their target
 abbrev backward : Start → Block
-backward c = graph_of c.args.kind.now c.args.first_back.now c.args.back_source.now
+backward c = graph_of c.args.kind.now c.args.back.now.first_back.now c.args.back.now.back_source.now
 
 pub take-v-requires : goal.take-v-requires
 take-v-requires c =

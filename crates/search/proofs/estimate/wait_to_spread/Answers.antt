@@ -7,16 +7,8 @@ use Rattle.search.specs.Estimates.{no_edge}
 use Rattle.search.proofs.estimate.GiveLaws.{base-small, lined_up}
 use Rattle.search.proofs.estimate.wait_to_spread.Goals as goal
 
-pub returns-then-first_back-u : goal.returns-then-first_back-u
-returns-then-first_back-u c = (no_edge c.if-first_back-u.true refl refl refl, inl refl)
-
-pub overflow_cast-kind : goal.overflow_cast-kind
-overflow_cast-kind c = omega (arith, c.type_inv.kind c.args.u)
-
-pub overflow_add-level : goal.overflow_add-level
-overflow_add-level c =
-    let most = c.requires.5 in
-    omega (arith, base-small c.args.kind.now c.args.u c.base.ensures)
+pub returns-then-back-u : goal.returns-then-back-u
+returns-then-back-u c = (no_edge c.if-back-u.true refl refl refl, inl refl)
 
 pub returns : goal.returns
 returns c =

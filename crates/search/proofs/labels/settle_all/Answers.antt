@@ -2,20 +2,8 @@
 -- a label makes a bare node wait at most.
 -- Assumes nothing.
 use native.Mathlib.Omega.{arith}
-use Rattle.search.proofs.SpreadRun.{run_start, run_node, run_fits, run_early, run_take, run_settle, run_more, run_falls, run_end}
+use Rattle.search.proofs.SpreadRun.{run_node, run_fits, run_early, run_settle, run_more, run_falls, run_end}
 use Rattle.search.proofs.labels.settle_all.Goals as goal
-
-pub loop-r-init : goal.loop-r-init
-loop-r-init c = run_start c.requires.1
-
-pub offset_bounds-work-n : goal.offset_bounds-work-n
-offset_bounds-work-n c = let f = c.requires.0.few in omega arith
-
-pub bounds-work-n : goal.bounds-work-n
-bounds-work-n c = let i = c.loop-r.invariant in let t = c.loop-r-test.true in let h = i.spread.heap.long in let f = i.spread.heap.few in omega arith
-
-pub offset_bounds-work-u : goal.offset_bounds-work-u
-offset_bounds-work-u c = let n = run_node c.loop-r.invariant c.loop-r-test.true in let f = c.requires.0.few in omega arith
 
 pub bounds-work-u : goal.bounds-work-u
 bounds-work-u c = let i = c.loop-r.invariant in let n = run_node i c.loop-r-test.true in let h = i.spread.heap.long in omega arith
@@ -25,18 +13,8 @@ overflow_add-work c =
     let m = run_fits c.loop-r.invariant c.loop-r-test.true c.requires.1.small in
     omega arith
 
-pub shape_of-work-then-r-work : goal.shape_of-work-then-r-work
-shape_of-work-then-r-work c = c.loop-r.invariant.onward.long
-
 pub returns-then-r-work : goal.returns-then-r-work
 returns-then-r-work c = run_early c.loop-r.invariant c.loop-r-test.true c.if-r-work.true
-
-pub overflow_sub-rest : goal.overflow_sub-rest
-overflow_sub-rest c = let t = c.loop-r-test.true in omega arith
-
-pub take-requires : goal.take-requires
-take-requires c =
-    let h = run_take c.loop-r.invariant c.loop-r-test.true c.requires.0.few in record { heaped = h.0; n_bound = h.1 }
 
 pub settle-r-requires : goal.settle-r-requires
 settle-r-requires c =
@@ -50,9 +28,6 @@ loop-r-smaller c =
 pub loop-r-preserved : goal.loop-r-preserved
 loop-r-preserved c =
     run_more c.loop-r.invariant c.loop-r-test.true c.take.ensures c.settle-r.ensures
-
-pub shape_of-work : goal.shape_of-work
-shape_of-work c = c.loop-r.invariant.onward.long
 
 pub returns : goal.returns
 returns c = run_end c.loop-r.invariant c.loop-r-test.false

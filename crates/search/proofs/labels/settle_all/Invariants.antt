@@ -3,16 +3,13 @@
 -- Assumes nothing.
 use Prim.Native.Nat.{◌+◌, ◌*◌}
 use lib.ListN.{length}
-use Rattle.search.specs.Block.{graph_of}
-use Rattle.search.specs.Turn.{weighed_congestion}
-use Rattle.search.specs.Clamped.{clamped_price}
+use Rattle.search.specs.Lent.{graph_in, price_read}
 use Rattle.search.specs.Spread.{bare_count}
 use Rattle.search.proofs.SpreadRun.{LabelsRunning}
 use Rattle.search.proofs.labels.settle_all.Given as goal
 
 abbrev pub invariant-loop-r : goal.invariant-loop-r
-invariant-loop-r l =
-    LabelsRunning (graph_of l.kind l.first_edge l.edge_target) (clamped_price l.kind l.capacity (weighed_congestion l.weighting l.delay l.factor l.history l.others)) l.goals l.initial.work l.work l.r.best l.r.count
+invariant-loop-r l = LabelsRunning (graph_in l.tables) (price_read l.tables l.prices) l.goals l.initial.work l.work l.r.best l.r.count
 
 abbrev pub decreases-loop-r : goal.decreases-loop-r
-decreases-loop-r l = 2 * bare_count (length l.kind) l.work + l.r.count
+decreases-loop-r l = 2 * bare_count (length l.tables.kind.now) l.work + l.r.count

@@ -1,12 +1,9 @@
--- `numbers::marks_sound` meets its contract. The loop's invariant: while the flag is set every entry passed is within its bounds, and where it is cleared one is not.
+-- `numbers::marks_sound` meets its contract. The loop's invariant: `fine` tells whether each entry passed keeps its bounds.
 -- Assumes nothing.
-use Prim.Native.Nat.{◌-◌}
+use mathlib.Core.Path.{◌≡◌}
+use Rattle.search.specs.AllBelow.{all_below}
 use Rattle.search.specs.Replies.{bounded}
-use Rattle.search.proofs.PassLaws.{Passing}
 use Rattle.search.proofs.numbers.marks_sound.Given as goal
 
 abbrev pub invariant-loop-v : goal.invariant-loop-v
-invariant-loop-v l = Passing (bounded 1 l.in_tree) l.n l.v l.fine
-
-abbrev pub decreases-loop-v : goal.decreases-loop-v
-decreases-loop-v l = l.n - l.v
+invariant-loop-v l = l.fine ≡ all_below l.v (bounded 1 l.in_tree)

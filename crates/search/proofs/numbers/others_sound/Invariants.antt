@@ -1,13 +1,10 @@
--- `numbers::others_sound` meets its contract. The loop's invariant: while the flag is set every entry passed is within its bounds, and where it is cleared one is not.
+-- `numbers::others_sound` meets its contract. The loop's invariant: `fine` tells whether each entry passed keeps its bounds.
 -- Assumes nothing.
-use Prim.Native.Nat.{◌-◌}
+use mathlib.Core.Path.{◌≡◌}
 use Rattle.price.specs.Bounds.{others_most}
+use Rattle.search.specs.AllBelow.{all_below}
 use Rattle.search.specs.Replies.{bounded}
-use Rattle.search.proofs.PassLaws.{Passing}
 use Rattle.search.proofs.numbers.others_sound.Given as goal
 
 abbrev pub invariant-loop-v : goal.invariant-loop-v
-invariant-loop-v l = Passing (bounded others_most l.others) l.n l.v l.fine
-
-abbrev pub decreases-loop-v : goal.decreases-loop-v
-decreases-loop-v l = l.n - l.v
+invariant-loop-v l = l.fine ≡ all_below l.v (bounded others_most l.others)

@@ -8,8 +8,9 @@ use Rattle.search.proofs.queue.carry_up.Goals as goal
 pub loop-i-init : goal.loop-i-init
 loop-i-init c = record { inner = c.requires.0; room = c.requires.1; but = c.requires.2; same = same_none _ _ _ }
 
-pub loop-i-preserved-then-work-n : goal.loop-i-preserved-then-work-n
-loop-i-preserved-then-work-n c = carried _ _ _ _ _ c.lesser_child-least.ensures c.if-work-n.true c.loop-i.invariant
+pub returns-then-work-n : goal.returns-then-work-n
+returns-then-work-n c =
+    (carried _ _ _ _ _ c.lesser_child-least.ensures c.if-work-n.true c.loop-i.invariant, c.loop-i.invariant.same)
 
 pub loop-i-preserved : goal.loop-i-preserved
 loop-i-preserved c = carried_up _ _ _ _ _ (search rules) c.lesser_child-least.ensures c.loop-i.invariant

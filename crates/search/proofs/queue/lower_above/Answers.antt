@@ -9,8 +9,9 @@ loop-i-init c =
     let pre = c.requires in
     record { carrying = record { inner = pre.0; room = pre.1; but = pre.2; same = same_none _ _ _ }; below = pre.3 }
 
-pub loop-i-preserved-then-work-n : goal.loop-i-preserved-then-work-n
-loop-i-preserved-then-work-n c = lowered-all _ _ _ _ _ c.loop-i-test.true c.if-work-n.true c.loop-i.invariant
+pub returns-then-work-n : goal.returns-then-work-n
+returns-then-work-n c =
+    (lowered-all _ _ _ _ _ c.loop-i-test.true c.if-work-n.true c.loop-i.invariant, c.loop-i.invariant.carrying.same)
 
 pub loop-i-preserved : goal.loop-i-preserved
 loop-i-preserved c = lowered_up _ _ _ _ _ c.loop-i-test.true c.if-work-n.false c.loop-i.invariant

@@ -1,14 +1,10 @@
--- `table_tests::capacities_sound` meets its contract. The loop's invariant: `fine` and the test of the capacities that are left make the test of them all.
+-- `table_tests::capacities_sound` meets its contract. The loop's invariant: `fine` tells whether no capacity passed is 0.
 -- Assumes nothing.
-use Prim.Native.Nat.{◌-◌}
-use lib.ListN.{length, drop}
-use Rattle.price.specs.Lists.{every}
-use Rattle.search.proofs.KeptLaws.{Kept}
-use Rattle.search.proofs.TableLaws.{capacity_sound}
+use mathlib.Core.Path.{◌≡◌}
+use lib.Dec.{leb}
+use lib.ListN.{take}
+use Rattle.std.specs.List.{list_all}
 use Rattle.search.proofs.table_tests.capacities_sound.Given as goal
 
-abbrev pub invariant-loop-v : goal.invariant-loop-v
-invariant-loop-v l = Kept (every capacity_sound l.capacity) l.fine (every capacity_sound (drop l.v l.capacity))
-
-abbrev pub decreases-loop-v : goal.decreases-loop-v
-decreases-loop-v l = length l.capacity - l.v
+abbrev pub invariant-loop-c : goal.invariant-loop-c
+invariant-loop-c l = l.fine ≡ list_all (λ c. leb 1 c) (take l.c-index l.capacity)

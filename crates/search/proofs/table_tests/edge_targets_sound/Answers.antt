@@ -7,36 +7,24 @@ use mathlib.Core.Path.{sym}
 use Prim.Native.Nat.{◌+◌}
 use native.Mathlib.Omega.{arith}
 use Rattle.std.proofs.Common.{rules}
-use borrow.Author.Count.{below_none, below_more}
+use borrow.Author.Count.{below_more}
 use Rattle.search.specs.Block.{row}
 use Rattle.search.proofs.BlockLaws.{firsts-long, firsts-most}
 use Rattle.search.proofs.KeptLaws.{refused, passed}
-use Rattle.search.proofs.TableLaws.{edges_many, edges_bad, edges-all}
+use Rattle.search.proofs.TableLaws.{edges_bad, edges-all}
 use Rattle.search.proofs.table_tests.edge_targets_sound.Goals as goal
 
-pub returns-then-edge_target-gt-EDGES_MOST : goal.returns-then-edge_target-gt-EDGES_MOST
-returns-then-edge_target-gt-EDGES_MOST c = sym (edges_many _ (search rules))
+pub offset_bounds-tables-u : goal.offset_bounds-tables-u
+offset_bounds-tables-u c = omega (arith, firsts-long _ _ _ c.requires)
 
-pub loop-u-init : goal.loop-u-init
-loop-u-init c = below_none _
+pub bounds-tables-u : goal.bounds-tables-u
+bounds-tables-u c = omega (arith, firsts-long _ _ _ c.requires)
 
-pub offset_bounds-first_edge-u : goal.offset_bounds-first_edge-u
-offset_bounds-first_edge-u c = omega (arith, firsts-long _ _ _ c.requires)
+pub offset_bounds-tables-u-in-loop-u : goal.offset_bounds-tables-u-in-loop-u
+offset_bounds-tables-u-in-loop-u c = omega (arith, firsts-long _ _ _ c.requires)
 
-pub bounds-first_edge-u : goal.bounds-first_edge-u
-bounds-first_edge-u c = omega (arith, firsts-long _ _ _ c.requires)
-
-pub overflow_cast-from : goal.overflow_cast-from
-overflow_cast-from c = omega (arith, c.type_inv.first_edge c.loop-u.u)
-
-pub offset_bounds-first_edge-u-in-loop-u : goal.offset_bounds-first_edge-u-in-loop-u
-offset_bounds-first_edge-u-in-loop-u c = omega (arith, firsts-long _ _ _ c.requires)
-
-pub bounds-first_edge-u-in-loop-u : goal.bounds-first_edge-u-in-loop-u
-bounds-first_edge-u-in-loop-u c = omega (arith, firsts-long _ _ _ c.requires)
-
-pub overflow_cast-to : goal.overflow_cast-to
-overflow_cast-to c = omega (arith, c.type_inv.first_edge (c.loop-u.u + 1))
+pub bounds-tables-u-in-loop-u : goal.bounds-tables-u-in-loop-u
+bounds-tables-u-in-loop-u c = omega (arith, firsts-long _ _ _ c.requires)
 
 pub row_sound-requires : goal.row_sound-requires
 row_sound-requires c = firsts-most _ _ _ c.requires _ (omega arith)

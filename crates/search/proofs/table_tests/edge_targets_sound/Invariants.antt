@@ -3,14 +3,12 @@
 -- Assumes nothing.
 use mathlib.Core.Bool.{true}
 use mathlib.Core.Path.{◌≡◌}
-use Prim.Native.Nat.{ℕ, ◌-◌, ◌<◌}
+use Prim.Native.Nat.{ℕ, ◌<◌}
 use lib.ListN.{length}
-use Rattle.search.specs.Block.{graph_of, row}
+use Rattle.search.specs.Block.{row}
+use Rattle.search.specs.Lent.{block_in}
 use Rattle.search.specs.Tables.{row_sound}
 use Rattle.search.proofs.table_tests.edge_targets_sound.Given as goal
 
 abbrev pub invariant-loop-u : goal.invariant-loop-u
-invariant-loop-u l = (k : ℕ) → k < l.u → row_sound (length l.kind) k (row (graph_of l.kind l.first_edge l.edge_target) k) ≡ true
-
-abbrev pub decreases-loop-u : goal.decreases-loop-u
-decreases-loop-u l = length l.kind - l.u
+invariant-loop-u l = (k : ℕ) → k < l.u → row_sound (length l.tables.kind.now) k (row (block_in l.tables) k) ≡ true

@@ -1,14 +1,11 @@
--- `table_tests::kinds_sound` meets its contract. The loop's invariant: `fine` and the test of the kinds that are left make the test of them all.
+-- `table_tests::kinds_sound` meets its contract. The loop's invariant: `fine` tells whether each kind passed keeps its bound.
 -- Assumes nothing.
-use Prim.Native.Nat.{◌-◌}
-use lib.ListN.{length, drop}
-use Rattle.price.specs.Lists.{every}
-use Rattle.search.proofs.KeptLaws.{Kept}
-use Rattle.search.proofs.TableLaws.{kind_sound}
+use mathlib.Core.Path.{◌≡◌}
+use lib.Dec.{leb}
+use lib.ListN.{take}
+use Rattle.std.specs.List.{list_all}
+use Rattle.price.specs.Bounds.{kind_most}
 use Rattle.search.proofs.table_tests.kinds_sound.Given as goal
 
-abbrev pub invariant-loop-v : goal.invariant-loop-v
-invariant-loop-v l = Kept (every kind_sound l.kind) l.fine (every kind_sound (drop l.v l.kind))
-
-abbrev pub decreases-loop-v : goal.decreases-loop-v
-decreases-loop-v l = length l.kind - l.v
+abbrev pub invariant-loop-k : goal.invariant-loop-k
+invariant-loop-k l = l.fine ≡ list_all (λ k. leb k kind_most) (take l.k-index l.kind)

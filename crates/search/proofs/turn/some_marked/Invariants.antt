@@ -1,11 +1,9 @@
--- `search::turn::some_marked` meets its contract. The invariant: `some` tells of the nodes below v. The measure is how many are left.
+-- `search::turn::some_marked` meets its contract. The invariant: `some` tells of the nodes below v.
 -- Assumes nothing.
-use Prim.Native.Nat.{◌-◌}
-use Rattle.search.proofs.turn.TurnMarkLaws.{MarksSeen}
+use mathlib.Core.Bool.{false}
+use mathlib.Core.Path.{◌≡◌}
+use Rattle.search.specs.TurnWork.{Unmarked}
 use Rattle.search.proofs.turn.some_marked.Given as goal
 
 abbrev pub invariant-loop-v : goal.invariant-loop-v
-invariant-loop-v l = MarksSeen l.in_tree l.from l.to l.some l.v
-
-abbrev pub decreases-loop-v : goal.decreases-loop-v
-decreases-loop-v l = l.to - l.v
+invariant-loop-v l = l.some ≡ false → Unmarked l.in_tree l.from l.v

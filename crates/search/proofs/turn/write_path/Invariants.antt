@@ -5,6 +5,3 @@ use Rattle.search.proofs.turn.write_path.Given as goal
 
 abbrev pub invariant-loop-i : goal.invariant-loop-i
 invariant-loop-i l = Writing l.n l.in_tree l.initial.work l.sink l.count l.work l.v l.i
-
-abbrev pub decreases-loop-i : goal.decreases-loop-i
-decreases-loop-i l = l.i
