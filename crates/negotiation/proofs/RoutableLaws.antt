@@ -32,7 +32,6 @@ unfolding search.sink_list_sound
 sinks_listed n ss few all =
     both_true (le-leb (length ss) sinks_most few) (every-all (λ s. ltb s n) ss (λ k l. lt-ltb (get_or ss k 0) n (all k l)))
 
-
 module _ (j : Job) (s : SoundJob j) where
   pub nets_some : 1 ≤ nets j
   nets_some = sources_some _ _ s.sources_sound_lem

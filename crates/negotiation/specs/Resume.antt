@@ -2,7 +2,8 @@
 -- leaves. The replay goes over the log's words with the machine's own steps, so what is rebuilt is a state of the machine. An audit
 -- (Audit.antt) is the same replay with two more questions: it is the test `audit` of these definitions, false where a log is taken up.
 -- Assumes nothing.
-use Rattle.std.specs.Prelude.{Option, Some, None, Bool, false, not, List, [], ◌∷◌, ◌++◌, ◌≡◌, ℕ, zero, suc, ◌+◌, ◌-◌, ◌/◌, ◌%◌, ◌^◌, ◌≤◌, ◌<◌, eqb, leb}
+use Rattle.std.specs.Prelude.{Option, Some, None}
+use Rattle.std.specs.Prelude.{Bool, false, not, List, [], ◌∷◌, ◌++◌, ◌≡◌, ℕ, zero, suc, ◌+◌, ◌-◌, ◌/◌, ◌%◌, ◌^◌, ◌≤◌, ◌<◌, eqb, leb}
 use Rattle.std.specs.Prelude.{ltb, length, get_or, take, drop}
 use Rattle.price.specs.Test.{choose, both, either}
 use Rattle.price.specs.Lists.{every, neighbours, has, distinct}

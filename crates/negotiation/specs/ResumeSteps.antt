@@ -1,7 +1,8 @@
 -- What the private functions that take up a lent log do: each record is tested in one pass over its path, with marks for the nodes of the
 -- tree and those passed, and goals for the sinks that the turn tries. Only their contracts cite this file: no caller has to believe it.
 -- Assumes nothing.
-use Rattle.std.specs.Prelude.{Option, Some, None, Bool, true, false, List, [], ◌∷◌, ◌≡◌, ℕ, ◌+◌, ◌*◌, ◌/◌, ◌%◌, ◌^◌, ◌≤◌, ◌<◌, eqb, leb, length, get_or, set}
+use Rattle.std.specs.Prelude.{Option, Some, None}
+use Rattle.std.specs.Prelude.{Bool, true, false, List, [], ◌∷◌, ◌≡◌, ℕ, ◌+◌, ◌*◌, ◌/◌, ◌%◌, ◌^◌, ◌≤◌, ◌<◌, eqb, leb, length, get_or, set}
 use Rattle.price.specs.Bounds.{timed_nodes_most}
 use Rattle.price.specs.Test.{choose, both}
 use Rattle.search.specs.Block.{Block, nodes, has_edge}

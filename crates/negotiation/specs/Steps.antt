@@ -1,13 +1,14 @@
 -- What the private functions of the router do to its lists. Only their contracts cite this file: no caller has to believe it.
 -- Assumes nothing.
-use Rattle.std.specs.Prelude.{Option, Some, None, Result, Ok, Err, Bool, true, not, List, [], ◌∷◌, ◌++◌, ◌≡◌, ℕ, ◌+◌, ◌*◌, ◌-◌, ◌^◌, ◌≤◌, ◌<◌, eqb, ltb, length, get_or}
+use Rattle.std.specs.Prelude.{Option, Some, None, Result, Ok, Err}
+use Rattle.std.specs.Prelude.{Bool, true, not, List, [], ◌∷◌, ◌++◌, ◌≡◌, ℕ, ◌+◌, ◌*◌, ◌-◌, ◌^◌, ◌≤◌, ◌<◌, eqb, ltb, length, get_or}
 use Rattle.std.specs.Prelude.{take, drop, set}
 use Rattle.std.proofs.Math.Seq.{slice}
 use Rattle.price.specs.Test.{choose, both, either}
 use Rattle.price.specs.Lists.{every, has}
 use Rattle.price.specs.Bounds.{factor_most}
 use Rattle.search.specs.Block as block
-use Rattle.search.specs.Block.{Block, graph_of}
+use Rattle.search.specs.Block.{Block}
 use Rattle.search.specs.Tables.{Sound}
 use Rattle.search.specs.Turn.{Congestion, price_at, Turn, joins, stuck}
 use Rattle.search.specs.Aimed.{weight_at, expanded}
@@ -17,11 +18,9 @@ use Rattle.search.specs.Priceable.{Weighable}
 use Rattle.search.specs.declared.Joins.{Joins}
 use Rattle.search.specs.declared.Back.{Back}
 use Rattle.search.specs.Lent.{back_in}
-use Rattle.job.specs.Job.{Job, nets, job_of}
-use Rattle.negotiation.specs.Routable.{Routable}
+use Rattle.job.specs.Job.{Job, nets}
 use Rattle.negotiation.specs.Outcome.{unreachable_net, unreachable_place}
 use Rattle.negotiation.specs.TariffSteps.{logged_tariff}
-use Rattle.job.specs.declared.Terms.{Terms}
 use Rattle.negotiation.specs.declared.tariff.Tariff.{Tariff}
 use Rattle.negotiation.specs.declared.turns.NoRoom.{NoRoom}
 use Rattle.negotiation.specs.declared.reach.Missing.{Missing}
@@ -223,7 +222,8 @@ pub record TurnLogged (t : Turn) (expanded : ℕ) (tariff : Tariff) (net : ℕ) 
   pub tariff_is : tariff' ≡ logged_tariff tariff (6 + length path) expanded
 
 -- what a turn did, by cases
-abbrev pub TurnDone : (r : Result (Option Tariff) NoRoom) (t : Turn) (expanded : ℕ) (tariff : Tariff) (net : ℕ) (sinks log marks log' marks' : List ℕ) → Type 0
+abbrev pub TurnDone :
+    (r : Result (Option Tariff) NoRoom) (t : Turn) (expanded : ℕ) (tariff : Tariff) (net : ℕ) (sinks log marks log' marks' : List ℕ) → Type 0
 TurnDone (Ok None) t expanded tariff net sinks log marks log' marks' = Skipped t log marks log' marks'
 TurnDone (Err full) t expanded tariff net sinks log marks log' marks' = Overflows t tariff log log'
 TurnDone (Ok (Some tariff')) t expanded tariff net sinks log marks log' marks' =

@@ -1,16 +1,17 @@
 -- What the private functions that take up a lent log leave: tariff and lists over the progress that the replay has reached. It is no value
 -- of the code, nor is the whole job within an iteration. Only their contracts cite this file: no caller has to believe it.
 -- Assumes nothing.
-use Rattle.std.specs.Prelude.{Option, Some, None, Result, Ok, Err, Bool, true, List, [], ◌∷◌, ◌++◌, ◌≡◌, ℕ, ◌+◌, ◌-◌, ◌≤◌, ◌<◌, eqb, leb, ltb, length, get_or}
+use Rattle.std.specs.Prelude.{Option, Some, None, Result, Ok, Err, Bool, true, List, [], ◌∷◌, ◌++◌, ◌≡◌}
+use Rattle.std.specs.Prelude.{ℕ, ◌+◌, ◌-◌, ◌≤◌, ◌<◌, eqb, leb, ltb, length, get_or}
 use Rattle.std.proofs.Math.Seq.{slice}
 use Rattle.price.specs.Test.{choose, both, either}
 use Rattle.price.specs.Lists.{has, up_to}
-use Rattle.search.specs.Block.{Block}
-use Rattle.search.specs.Block as block
+use Rattle.price.specs.declared.Weighting.{Weighting}
+use Rattle.search.specs.Lent.{block_in}
 use Rattle.search.specs.Distance.{tree_has}
 use Rattle.search.specs.Turn.{Congestion, weighed_congestion, price_at, turn}
 use Rattle.search.specs.Replies.{sink_list_sound}
-use Rattle.job.specs.Job.{Job, job_of, nodes, nets, source, net_sinks}
+use Rattle.job.specs.Job.{Job, nodes, nets, source, net_sinks}
 use Rattle.negotiation.specs.Routable.{Routable}
 use Rattle.negotiation.specs.Records.{Record, encode, path_nodes}
 use Rattle.negotiation.specs.Order.{sinks_tried, weighting_due}
@@ -24,7 +25,7 @@ use Rattle.negotiation.specs.ResumeSteps.{RecordReady, named_cost, turn_passes, 
 use Rattle.negotiation.specs.Steps.{TurnReady}
 use Rattle.negotiation.specs.Kept.{Kept, Tallied, CanGoOn, Ready}
 use Rattle.negotiation.specs.Runs.{Ran}
-use Rattle.job.specs.declared.Terms.{Terms}
+use Rattle.job.specs.declared.JobTables.{JobTables}
 use Rattle.negotiation.specs.declared.tariff.Tariff.{Tariff}
 use Rattle.negotiation.specs.declared.take_up.Stopped.{Stopped}
 use Rattle.negotiation.specs.declared.take_up.Stopped.TheVariants.{Off, Ends, NotCheapest}
@@ -63,60 +64,61 @@ whole_as audit t over limit len =
     (choose (either (eqb over 0) (eqb t.iteration limit)) (Err (Off t.words)) (Ok t))
 
 -- the turn of the net whose sinks stand in table 7 from one place to below another: the sinks that it tries, and what prices it
-module _ (sinks delays criticalities : List ℕ) (timed : Bool) (from to : ℕ) (marks : List ℕ) where
+module _ (tables : JobTables) (from to : ℕ) (marks : List ℕ) where
   abbrev pub tried_here : List ℕ
-  tried_here = sinks_tried timed (tree_has marks) (slice from to sinks) (slice from to criticalities)
+  tried_here =
+      sinks_tried tables.terms.timed (tree_has marks) (slice from to tables.sink.now) (slice from to tables.criticality.now)
+
+  abbrev pub weighting_here : Weighting
+  weighting_here =
+      weighting_due tables.terms.timed (tree_has marks) (slice from to tables.sink.now) (slice from to tables.criticality.now)
 
   abbrev pub congestion_here : Tariff → (history users : List ℕ) → Congestion
-  congestion_here t history users =
-      weighed_congestion (weighting_due timed (tree_has marks) (slice from to sinks) (slice from to criticalities)) delays t.factor history
-      users
+  congestion_here t history users = weighed_congestion weighting_here tables.delay.now t.factor history users
 
 -- marks of these nodes
 abbrev pub goals_of : ℕ → List ℕ → List ℕ
 goals_of n xs = up_to (λ v. choose (has v xs) 1 0) n
 
+-- the sinks that it tries are goals
+abbrev pub goals_here : (tables : JobTables) → (from to : ℕ) → (marks : List ℕ) → List ℕ
+goals_here tables from to marks = goals_of (length tables.block.kind.now) (tried_here tables from to marks)
+
 -- it can be followed: its sinks can be chosen, and its record be tested at their prices
-pub record TryReady (b : Block) (sinks delays criticalities : List ℕ) (timed : Bool) (from to : ℕ) (t : Tariff)
-    (history users marks work log : List ℕ) : Type 0 where
-  pub choosable : SinksReady timed sinks criticalities from to marks
+pub record TryReady (tables : JobTables) (from to : ℕ) (t : Tariff) (history users marks work log : List ℕ) : Type 0 where
+  pub choosable : SinksReady tables.terms.timed tables.sink.now tables.criticality.now from to marks
   pub tested :
-      RecordReady b (congestion_here sinks delays criticalities timed from to marks t history users)
-      (goals_of (block.nodes b) (tried_here sinks delays criticalities timed from to marks)) marks log t.words
-  pub searchable : TurnReady b (congestion_here sinks delays criticalities timed from to marks t history users) marks work
-  pub sinks_sound_lem : sink_list_sound (block.nodes b) (tried_here sinks delays criticalities timed from to marks) ≡ true
+      RecordReady (block_in tables.block) (congestion_here tables from to marks t history users) (goals_here tables from to marks) marks log
+      t.words
+  pub searchable : TurnReady (block_in tables.block) (congestion_here tables from to marks t history users) marks work
+  pub sinks_sound_lem : sink_list_sound (length tables.block.kind.now) (tried_here tables from to marks) ≡ true
 
 -- the least cost of that turn, where it is asked for
-abbrev pub tried_least :
-    Block → (sinks delays criticalities : List ℕ) → Bool → (from to : ℕ) → Tariff → Bool → (history users marks : List ℕ) → ℕ
-tried_least b sinks delays criticalities timed from to t audit history users marks =
-    least_asked audit
-    (turn b (price_at b (congestion_here sinks delays criticalities timed from to marks t history users)) marks
-    (tried_here sinks delays criticalities timed from to marks))
+abbrev pub tried_least : (tables : JobTables) → (from to : ℕ) → Tariff → Bool → (history users marks : List ℕ) → ℕ
+tried_least tables from to t audit history users marks =
+    let b = block_in tables.block in
+    let price = price_at b (congestion_here tables from to marks t history users) in
+    least_asked audit (turn b price marks (tried_here tables from to marks))
 
 -- the words begin with a record that follows
-abbrev pub tried_passes :
-    Block → (sinks delays criticalities : List ℕ) → Bool → (from to : ℕ) → Tariff → ℕ → (history users marks ws : List ℕ) → Bool
-tried_passes b sinks delays criticalities timed from to t net history users marks ws =
-    turn_passes b (price_at b (congestion_here sinks delays criticalities timed from to marks t history users))
-    (goals_of (block.nodes b) (tried_here sinks delays criticalities timed from to marks)) marks t.iteration net ws
+abbrev pub tried_passes : (tables : JobTables) → (from to : ℕ) → Tariff → (net : ℕ) → (history users marks ws : List ℕ) → Bool
+tried_passes tables from to t net history users marks ws =
+    let b = block_in tables.block in
+    let price = price_at b (congestion_here tables from to marks t history users) in
+    turn_passes b price (goals_here tables from to marks) marks t.iteration net ws
 
 -- ---- the turns of a net
 
--- where net i's sinks stand in table 7, and the tables of a timed job
-pub record NetTables (j : Job) (i : ℕ) (delays criticalities : List ℕ) (timed : Bool) (from to : ℕ) : Type 0 where
-  pub timed_is : timed ≡ j.terms.timed
+-- where net i's sinks stand in table 7
+pub record NetPlaces (j : Job) (i from to : ℕ) : Type 0 where
   pub from_is : from ≡ get_or j.first_sinks i 0
   pub to_is : to ≡ get_or j.first_sinks (i + 1) 0
-  pub delays_are : timed ≡ true → delays ≡ j.delays
-  pub criticalities_are : timed ≡ true → criticalities ≡ j.criticalities
 
 -- net i has dropped its old tree: the others are left of the users, and its source is marked
-pub record NetOpens (j : Job) (p : Progress) (i : ℕ) (delays criticalities : List ℕ) (timed : Bool) (from to turns : ℕ) (t : Tariff)
-    (history users marks log : List ℕ) : Type 0 where
+pub record NetOpens (j : Job) (p : Progress) (i from to turns : ℕ) (t : Tariff) (history users marks log : List ℕ) : Type 0 where
   pub routable : Routable j
   pub net : i < nets j
-  pub tables : NetTables j i delays criticalities timed from to
+  pub places : NetPlaces j i from to
   pub at : TakenTo j p t log
   pub some : 1 ≤ turns
   pub turns-is : turns ≡ length (net_sinks j i)
@@ -125,10 +127,9 @@ pub record NetOpens (j : Job) (p : Progress) (i : ℕ) (delays criticalities : L
   pub marks_is : marks ≡ marks_of j (source j i ∷ [])
 
 -- it has done so behind some progress
-pub record SomeNet (j : Job) (delays criticalities : List ℕ) (timed : Bool) (from to i turns : ℕ) (t : Tariff)
-    (history users marks log : List ℕ) : Type 0 where
+pub record SomeNet (j : Job) (from to i turns : ℕ) (t : Tariff) (history users marks log : List ℕ) : Type 0 where
   pub progress : Progress
-  pub opens : NetOpens j progress i delays criticalities timed from to turns t history users marks log
+  pub opens : NetOpens j progress i from to turns t history users marks log
 
 -- its turns follow: their tree is marked, and its source is on a path
 pub record NetOn (audit : Bool) (j : Job) (p : Progress) (i : ℕ) (t : Tariff) (marks log : List ℕ) : Type 0 where
@@ -161,10 +162,10 @@ NetTaken walk (Err (NotCheapest told cost least)) j p i marks log = NetEnds walk
 
 -- behind every such progress
 abbrev pub NetAnswered :
-    Walk → (j : Job) (delays criticalities : List ℕ) (timed : Bool) (from to i turns : ℕ) (t : Tariff)
-    (history users marks log : List ℕ) (r : Result Tariff Stopped) (marks' : List ℕ) → Type 0
-NetAnswered walk j delays criticalities timed from to i turns t history users marks log r marks' =
-    (p : Progress) → NetOpens j p i delays criticalities timed from to turns t history users marks log → NetTaken walk r j p i marks' log
+    Walk → (j : Job) (from to i turns : ℕ) (t : Tariff) (history users marks log : List ℕ) (r : Result Tariff Stopped) (marks' : List ℕ)
+    → Type 0
+NetAnswered walk j from to i turns t history users marks log r marks' =
+    (p : Progress) → NetOpens j p i from to turns t history users marks log → NetTaken walk r j p i marks' log
 
 -- ---- the nets of an iteration
 

@@ -41,6 +41,7 @@ fn told(outcome: Outcome, at: Told) -> AuditAnswer
 }
 
 // The answer by what the log came to.
+#[tactic(auto, unfolding(crate::specs::AuditSteps::audit_answer))]
 fn answer(taken: Result<Tariff, Stopped>) -> AuditAnswer
     ensures { result ≡ audit_answer taken }
 {

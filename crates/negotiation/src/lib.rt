@@ -151,8 +151,8 @@ fn refusal_of(job: &JobTables, entries: usize) -> Result<(), Outcome>
     Ok(())
 }
 
-// Routes a job given as tables, from iteration 1 or after so many words of a lent log: refusals 5, 15 and 6; then nets of one source are joined, and the joined
-// nets are routed.
+// Routes a job given as tables, from iteration 1 or after so many words of a lent log: refusals 5, 15 and 6; then nets of one source are
+// joined, and the joined nets are routed.
 fn routed_from(
     job: &JobTables,
     start: Option<usize>,

@@ -2,7 +2,6 @@
 // each turn is held against the search too.
 ghost use Rattle.std.specs.Prelude.{◌≡◌, ℕ, ◌+◌, ◌*◌, ◌≤◌, ◌<◌, leb, length, drop};
 ghost use Rattle.price.specs.Test.{both};
-ghost use Rattle.search.specs.Lent.{block_in};
 ghost use Rattle.job.specs.Job.{nodes};
 ghost use Rattle.job.specs.Lent.{job_in};
 ghost use Rattle.negotiation.specs.Routable.{Routable};
@@ -56,7 +55,7 @@ pub fn words_at(stopped: Stopped) -> usize
     match stopped {
         Stopped::Off(word) => word,
         Stopped::Ends(at) => at.words,
-        Stopped::NotCheapest { at, cost, least } => at.words,
+        Stopped::NotCheapest { at, .. } => at.words,
     }
 }
 
@@ -90,6 +89,7 @@ fn set_goals(sinks: &[u16], goals: &mut [u8])
 }
 
 // The words of the record at the tariff's place, given none where it doesn't follow, if its cost is a least cost of the turn.
+#[tactic(auto, unfolding(crate::specs::TakeSteps::judged_as))]
 fn judged(
     log: &[u32],
     t: Tariff,
@@ -131,15 +131,10 @@ fn follow_tried(
     log: &[u32],
 ) -> Result<usize, Stopped>
     requires begun { 1 ≤ tariff.iteration }
-    requires ready { let j = job.now in
-        TryReady (block_in j.block) j.sink.now j.delay.now j.criticality.now j.terms.timed from to tariff history.now users.now
-        in_tree.old work.old log.now }
-    ensures value { let j = job.now in
-        let ws = drop tariff.words log.now in
-        let passes = tried_passes (block_in j.block) j.sink.now j.delay.now j.criticality.now j.terms.timed from to tariff net
-        history.now users.now in_tree.old ws in
-        let least = tried_least (block_in j.block) j.sink.now j.delay.now j.criticality.now j.terms.timed from to tariff walk.audit
-        history.now users.now in_tree.old in
+    requires ready { TryReady job.now from to tariff history.now users.now in_tree.old work.old log.now }
+    ensures value { let ws = drop tariff.words log.now in
+        let passes = tried_passes job.now from to tariff net history.now users.now in_tree.old ws in
+        let least = tried_least job.now from to tariff walk.audit history.now users.now in_tree.old in
         result ≡ tried_as tariff walk (leb (length log.now) tariff.words) passes ws least }
     ensures stored { let ws = drop tariff.words log.now in
         ((count : ℕ) → result ≡ Ok count → Stored 1 (record_path ws) in_tree.old in_tree.new) }
@@ -180,14 +175,12 @@ fn follow_net(
     work: &mut [u64],
     log: &[u32],
 ) -> Result<Tariff, Stopped>
-    requires { let j = job.now in
-        (0 < turns
-        → SomeNet (job_in j) j.delay.now j.criticality.now j.terms.timed from to net turns begun history.now users.now
-        in_tree.old log.now × (8 * length j.block.kind.now ≤ length work.old)) }
+    requires { 0 < turns
+        → SomeNet (job_in job.now) from to net turns begun history.now users.now in_tree.old log.now
+        × (8 * length job.now.block.kind.now ≤ length work.old) }
     ensures value { turns ≡ 0 → (result ≡ Ok begun) × (in_tree.new ≡ in_tree.old) }
-    ensures net_answered { let j = job.now in
-        NetAnswered walk (job_in j) j.delay.now j.criticality.now j.terms.timed from to net turns begun history.now
-        users.now in_tree.old log.now result in_tree.new }
+    ensures net_answered { NetAnswered walk (job_in job.now) from to net turns begun history.now users.now in_tree.old log.now
+        result in_tree.new }
     ensures same_from { SameFrom (8 * length job.now.block.kind.now) work.old work.new }
 {
     if turns == 0 {
@@ -248,6 +241,7 @@ fn follow_nets(
 }
 
 // What a log comes to behind a whole iteration: an audit's words may end there; else a node is overfull, and the limit is not reached.
+#[tactic(auto, unfolding(crate::specs::TakeSteps::whole_as))]
 fn whole_iteration(
     audit: bool,
     t: Tariff,
@@ -261,10 +255,7 @@ fn whole_iteration(
         return Err(Stopped::Ends(came_to(t, t.iteration, over)));
     }
     let settled = over == 0;
-    if settled {
-        return Err(Stopped::Off(t.words));
-    }
-    if t.iteration == limit {
+    if settled || t.iteration == limit {
         return Err(Stopped::Off(t.words));
     }
     Ok(t)
@@ -295,8 +286,7 @@ pub fn take_up(
 {
     let mut tariff = begun;
     let mut over = 0u32;
-    let mut more = true;
-    while more {
+    loop {
         due::mark_due(job, tariff, log, tree_from, tree_to, users, due);
         let walk = Walk { audit, over };
         let t = follow_nets(
@@ -306,7 +296,8 @@ pub fn take_up(
         let next = whole_iteration(audit, t, over, job.terms.limit, log.len())?;
         congestion::grow_histories(job.terms.tuning, job.block.capacity, users, history);
         tariff = tariff::iteration_started(tariff::iteration_ended(next, job.terms.tuning));
-        more = tariff.words < log.len();
+        if log.len() <= tariff.words {
+            return Ok(tariff);
+        }
     }
-    Ok(tariff)
 }

@@ -30,10 +30,6 @@ use Rattle.negotiation.proofs.RouteLaws.{left-same, reached-missing, reached_run
 
 -- ---- what the log came to
 
--- the answer where it is followed no further
-pub answered_err : {taken : Result Tariff Stopped} {e s : Stopped} → taken ≡ Err e → e ≡ s → audit_answer (Err s) ≡ audit_answer taken
-answered_err is e-is = sym (ap audit_answer (is ∙ ap Err e-is))
-
 -- the iterations before the one that is begun are whole
 whole_before : {rs : List Record} {iteration over : ℕ} {at : Told} → ToldAt rs iteration over at → at.whole ≡ iteration - 1
 whole_before t = let w = t.whole_is in omega arith

@@ -1,17 +1,15 @@
 -- What the next record of a net comes to, by the tests that are made of it.
---     end-asked                           an audit's words end
---     judged-                             the record strays, costs more than the least, or follows
+--     sent_on                             what the exit of a `?` returns
+--     judged_some                         the record follows
 --     said-                               as the call answers
 --     whole-                              behind a whole iteration
 -- Assumes nothing.
 use mathlib.Core.Bool.{Bool, true, false}
 use mathlib.Core.List.{List}
-use mathlib.Core.Path.{◌≡◌, refl, sym, ◌∙◌, ap}
-use Prim.Native.Nat.{ℕ, ◌+◌, ◌-◌, ◌≤◌, ◌<◌}
-use native.Mathlib.Omega.{arith}
+use mathlib.Core.Path.{◌≡◌, sym, ◌∙◌, ap}
+use Prim.Native.Nat.{ℕ, ◌+◌, ◌-◌}
 use lib.Dec.{eqb, leb, ltb}
 use lib.ListN.{get_or}
-use borrow.Author.Tests.{eq-eqb, ne_eqb, lt-ltb, le-ltb}
 use Rattle.std.proofs.lemmas.Result.{err_from_is_err_and}
 use Rattle.std.specs.Result.{IsErrAnd}
 use Rattle.std.specs.Prelude.{Option, Some, None, Result, Ok, Err}
@@ -24,9 +22,6 @@ use Rattle.negotiation.specs.declared.take_up.Stopped.{Stopped}
 use Rattle.negotiation.specs.declared.take_up.Stopped.TheVariants.{Off, Ends, NotCheapest}
 use Rattle.negotiation.specs.declared.take_up.Told.{Told}
 use Rattle.negotiation.specs.declared.take_up.Walk.{Walk}
-
-pub end-asked : {audit : Bool} (end : Bool) → audit ≡ true → end ≡ both audit end
-end-asked end e = rw e
 
 -- what the exit of a `?` returns
 pub sent_on : {A : Type 0} (r : Result A Stopped) {e : Stopped} → IsErrAnd r (λ x. x ≡ e) → r ≡ Err e
@@ -57,22 +52,9 @@ module _ (t : Tariff) (over : ℕ) where
   unfolding judged_as
   judged_none count cost least e = rw e
 
-  pub judged_strays : (count : Option ℕ) (cost least : ℕ) → ((k : ℕ) → count ≡ Some k → ⊥) → Err (Off t.words) ≡ judged_as t over count cost least
-  judged_strays None cost least other = judged_none None cost least refl
-  judged_strays (Some k) cost least other = absurd (other k refl)
-
   pub judged_some :
       (count : Option ℕ) (cost least : ℕ) {r : Result ℕ Stopped} {words : ℕ} → r ≡ judged_as t over count cost least → r ≡ Ok words → count ≡ None → ⊥
   judged_some count cost least is e z = not_both (is ∙ sym (judged_none count cost least z)) e
-
-  module _ {count : Option ℕ} {k cost named least : ℕ} (is : cost ≡ named) (some : count ≡ Some k) where
-    pub judged_dear : {told : Told} → told ≡ told_of t (t.iteration - 1) over → least < cost → Err (NotCheapest told cost least) ≡ judged_as t over count named least
-    unfolding judged_as
-    judged_dear same l = rw (← is, some, lt-ltb least cost l) (ap (λ (x : Told). Err (NotCheapest x cost least)) same)
-
-    pub judged-follows : cost ≤ least → Ok k ≡ judged_as t over count named least
-    unfolding judged_as
-    judged-follows l = rw (← is, some, le-ltb least cost l)
 
 -- what the call answers, by the same tests
 module _ (t : Tariff) (walk : Walk) (ended passes : Bool) (ws : List ℕ) (least : ℕ) where
@@ -135,25 +117,6 @@ is_on (Err e) = false
 abbrev tariff_in : Tariff → Result Tariff Stopped → Tariff
 tariff_in d (Ok t) = t
 tariff_in d (Err e) = d
-
-module _ (audit : Bool) (t : Tariff) (over limit len : ℕ) {end : Bool} (is : end ≡ both audit (leb len t.words)) where
-  pub whole_ends : {told : Told} → end ≡ true → told ≡ told_of t t.iteration over → Err (Ends told) ≡ whole_as audit t over limit len
-  unfolding whole_as
-  whole_ends e same = rw (← is, e) (ap (λ (x : Told). Err (Ends x)) same)
-
-  module _ (e : end ≡ false) where
-    pub whole_settled : over ≡ 0 → Err (Off t.words) ≡ whole_as audit t over limit len
-    unfolding whole_as
-    whole_settled z = rw (← is, e, eq-eqb over 0 z)
-
-    module _ (some : over ≡ 0 → ⊥) where
-      pub whole_last : t.iteration ≡ limit → Err (Off t.words) ≡ whole_as audit t over limit len
-      unfolding whole_as
-      whole_last l = rw (← is, e, ne_eqb over 0 some, eq-eqb t.iteration limit l)
-
-      pub whole_on : (t.iteration ≡ limit → ⊥) → Ok t ≡ whole_as audit t over limit len
-      unfolding whole_as
-      whole_on l = rw (← is, e, ne_eqb over 0 some, ne_eqb t.iteration limit l)
 
 -- what is answered, by the same tests
 module _ (audit : Bool) (t : Tariff) (over limit len : ℕ) where

@@ -11,12 +11,12 @@ use mathlib.Core.Bool.{Bool, true, false}
 use mathlib.Core.List.{List, []}
 use mathlib.Core.Logic.{⊎_elim}
 use mathlib.Core.Path.{◌≡◌, refl, sym, ◌∙◌, ap, subst}
-use Prim.Native.Nat.{ℕ, suc, ◌+◌, ◌-◌, ◌<◌, zero-le}
+use Prim.Native.Nat.{ℕ, suc, ◌+◌, ◌-◌, ◌≤◌, ◌<◌, zero-le}
 use native.Mathlib.Nat.{eq-or-lt_of_le}
 use native.Mathlib.Omega.{arith}
 use lib.Dec.{eqb, leb, ltb}
 use lib.ListN.{length, get_or}
-use borrow.Author.Tests.{eq-eqb, eqb-true, eqb-false, le-leb, lt-leb, le-ltb, ltb-true, ltb-false}
+use borrow.Author.Tests.{eq-eqb, eqb-true, eqb-false, le-leb, lt-leb, lt-ltb, le-ltb, ltb-true, ltb-false}
 use Rattle.price.specs.Test.{choose, both, either}
 use Rattle.price.specs.Lists.{up_to}
 use Rattle.price.specs.Prices.{next_factor}
@@ -33,7 +33,7 @@ use Rattle.negotiation.specs.Kept.{CanGoOn, Ready}
 use Rattle.negotiation.specs.Resume.{Replay, on, off, ends, not_cheapest, if_on, at_end, since_start, moved_on, replay_nets, replay_next, replay_from}
 use Rattle.negotiation.specs.TakeSteps.{told_of, whole_as, ToldAt, NetsOpen, NetsOn, NetsEnd, NetsTaken, LogOn, LogEnds, LogTaken}
 use Rattle.negotiation.specs.declared.tariff.Tariff.{Tariff}
-use Rattle.std.specs.Prelude.{Option, Some, None, Result, Ok, Err}
+use Rattle.std.specs.Prelude.{Result, Ok, Err}
 use Rattle.negotiation.specs.declared.take_up.Stopped.{Stopped}
 use Rattle.negotiation.specs.declared.take_up.Stopped.TheVariants.{Off, Ends, NotCheapest}
 use Rattle.negotiation.specs.declared.take_up.Told.{Told}
@@ -48,14 +48,12 @@ use Rattle.negotiation.proofs.take_up.TakeNetLaws.{on_err}
 
 -- ---- the iterations so far
 
--- they follow and lead to this progress; the log goes on behind it, or ends here
-pub record Taking (audit : Bool) (j : Job) (more : Bool) (over : ℕ) (t : Tariff) (history users marks from to dues log : List ℕ) : Type 0 where
+-- they follow and lead to this progress, and the next one is followed
+pub record Taking (audit : Bool) (j : Job) (over : ℕ) (t : Tariff) (history users marks from to dues log : List ℕ) : Type 0 where
   pub progress : Progress
   pub left : ℕ
   pub left_is : left + progress.state.iteration ≡ j.terms.limit + 1
-  pub is :
-      replay_from audit j log j.terms.limit (first_state j) []
-      ≡ choose more (replay_from audit j log left progress.state progress.records) (on progress)
+  pub is : replay_from audit j log j.terms.limit (first_state j) [] ≡ replay_from audit j log left progress.state progress.records
   pub over-is : over ≡ over_count j progress.state.trees
   pub ready : Ready j progress t history users marks from to dues log
 
@@ -69,13 +67,13 @@ none_over j =
 -- none, at first
 pub take-start :
     (audit : Bool) (j : Job) {t : Tariff} {history users marks from to dues log : List ℕ} → Ready j (first_progress j) t history users marks from to dues log
-    → Taking audit j true 0 t history users marks from to dues log
+    → Taking audit j 0 t history users marks from to dues log
 unfolding first_state
 take-start audit j r = record { progress = first_progress j; left = j.terms.limit; left_is = refl; is = refl; over-is = none_over j; ready = r }
 
 -- the lists keep their lengths
 pub taking-long :
-    {audit : Bool} (j : Job) {more : Bool} {over : ℕ} {t : Tariff} {history users marks from to dues log : List ℕ} → Taking audit j more over t history users marks from to dues log
+    {audit : Bool} (j : Job) {over : ℕ} {t : Tariff} {history users marks from to dues log : List ℕ} → Taking audit j over t history users marks from to dues log
     → (length history ≡ nodes j) × (length users ≡ nodes j) × (length marks ≡ nodes j) × (length from ≡ nets j) × (length to ≡ nets j) × (length dues ≡ nets j)
 taking-long j a =
     let kept = a.ready.kept in (
@@ -86,17 +84,6 @@ taking-long j a =
       kept.places.to-long,
       a.ready.due-long,
     )
-
--- the log is at its end
-pub take_on :
-    {audit : Bool} (j : Job) {more : Bool} {over : ℕ} {t : Tariff} {history users marks from to dues log : List ℕ} → Taking audit j more over t history users marks from to dues log → more ≡ false
-    → LogOn audit j t history users marks from to dues log
-take_on {audit} j {log = log} a e =
-    record {
-      progress = a.progress;
-      is = a.is ∙ ap (λ (b : Bool). choose b (replay_from audit j log a.left a.progress.state a.progress.records) (on a.progress)) e;
-      ready = a.ready;
-    }
 
 -- ---- what the nets come to, by cases
 
@@ -129,8 +116,8 @@ from_step audit j ws k q a e = rw e
 
 -- ---- the next iteration
 
-module _ (j : Job) (sound : Routable j) {audit more : Bool} {over : ℕ} {t : Tariff} {history users marks from to dues log : List ℕ}
-    (a : Taking audit j more over t history users marks from to dues log) where
+module _ (j : Job) (sound : Routable j) {audit : Bool} {over : ℕ} {t : Tariff} {history users marks from to dues log : List ℕ}
+    (a : Taking audit j over t history users marks from to dues log) where
   abbrev here : Progress
   here = a.progress
 
@@ -158,204 +145,218 @@ module _ (j : Job) (sound : Routable j) {audit more : Bool} {over : ℕ} {t : Ta
         due-is = due-marked j sound a.ready.kept a.ready.tallied a.ready.iteration-is dues dues' a.ready.due-long e;
       }
 
-  -- the log goes on
-  module _ (some : more ≡ true) where
-    -- an iteration is left
-    some_left : a.left ≡ suc (a.left - 1)
-    some_left =
-        let is = a.left_is in
-        let made = a.ready.can.iteration-is in
-        let below = a.ready.can.below in
-        omega arith
+  -- an iteration is left
+  some_left : a.left ≡ suc (a.left - 1)
+  some_left =
+      let is = a.left_is in
+      let made = a.ready.can.iteration-is in
+      let below = a.ready.can.below in
+      omega arith
 
-    one_more : replay_from audit j log j.terms.limit (first_state j) [] ≡ replay_from audit j log (suc (a.left - 1)) here.state here.records
-    one_more =
-        a.is ∙ ap (λ (b : Bool). choose b (replay_from audit j log a.left here.state here.records) (on here)) some
-        ∙ ap (λ (k : ℕ). replay_from audit j log k here.state here.records) some_left
+  one_more : replay_from audit j log j.terms.limit (first_state j) [] ≡ replay_from audit j log (suc (a.left - 1)) here.state here.records
+  one_more =
+      a.is ∙ ap (λ (k : ℕ). replay_from audit j log k here.state here.records) some_left
 
-    abbrev walk : Walk
-    walk = record { audit = audit; over = over }
+  abbrev walk : Walk
+  walk = record { audit = audit; over = over }
 
-    -- a net ends it
-    ended_so : (told : Told) (reply : Progress → Replay)
-        → ((q : Progress) (s : State) (next : Progress → Replay) → if_on (since_start s (reply q)) next ≡ reply (record { records = q.records; state = s }))
-        → NetsEnd walk j here log told reply → LogEnds audit j log told reply
-    ended_so told reply since n =
-        record {
-          progress = record { records = n.progress.records; state = here.state };
-          is = one_more ∙ from_step audit j log (a.left - 1) here (reply n.progress) n.is ∙ since n.progress here.state _;
-          told_at = subst (λ (k : ℕ). ToldAt n.progress.records here.state.iteration k told) a.over-is n.told_at;
-        }
+  -- a net ends it
+  ended_so : (told : Told) (reply : Progress → Replay)
+      → ((q : Progress) (s : State) (next : Progress → Replay) → if_on (since_start s (reply q)) next ≡ reply (record { records = q.records; state = s }))
+      → NetsEnd walk j here log told reply → LogEnds audit j log told reply
+  ended_so told reply since n =
+      record {
+        progress = record { records = n.progress.records; state = here.state };
+        is = one_more ∙ from_step audit j log (a.left - 1) here (reply n.progress) n.is ∙ since n.progress here.state _;
+        told_at = subst (λ (k : ℕ). ToldAt n.progress.records here.state.iteration k told) a.over-is n.told_at;
+      }
 
-    pub take-stopped :
-        (users' marks' from' to' : List ℕ) (e : Stopped) → NetsTaken walk (Err e) j here history users' marks' from' to' log
-        → (history'' users'' marks'' from'' to'' dues'' : List ℕ) → LogTaken audit (Err e) j history'' users'' marks'' from'' to'' dues'' log
-    take-stopped users' marks' from' to' (Off w) n history'' users'' marks'' from'' to'' dues'' = one_more ∙ from_step audit j log (a.left - 1) here (off w) n
-    take-stopped users' marks' from' to' (Ends told) n history'' users'' marks'' from'' to'' dues'' = ended_so told ends (λ q s next. refl) n
-    take-stopped users' marks' from' to' (NotCheapest told cost least) n history'' users'' marks'' from'' to'' dues'' =
-        ended_so told (λ q. not_cheapest q cost least) (λ q s next. refl) n
+  pub take-stopped :
+      (users' marks' from' to' : List ℕ) (e : Stopped) → NetsTaken walk (Err e) j here history users' marks' from' to' log
+      → (history'' users'' marks'' from'' to'' dues'' : List ℕ) → LogTaken audit (Err e) j history'' users'' marks'' from'' to'' dues'' log
+  take-stopped users' marks' from' to' (Off w) n history'' users'' marks'' from'' to'' dues'' = one_more ∙ from_step audit j log (a.left - 1) here (off w) n
+  take-stopped users' marks' from' to' (Ends told) n history'' users'' marks'' from'' to'' dues'' = ended_so told ends (λ q s next. refl) n
+  take-stopped users' marks' from' to' (NotCheapest told cost least) n history'' users'' marks'' from'' to'' dues'' =
+      ended_so told (λ q. not_cheapest q cost least) (λ q s next. refl) n
 
-    -- or all nets follow
-    module _ {t' : Tariff} {users' marks' from' to' : List ℕ} (n : NetsOn audit j here (nets j) t' history users' marks' from' to' log) where
-      abbrev end : Progress
-      end = n.progress
+  -- or all nets follow
+  module _ {t' : Tariff} {users' marks' from' to' : List ℕ} (n : NetsOn audit j here (nets j) t' history users' marks' from' to' log) where
+    abbrev end : Progress
+    end = n.progress
 
-      whole : replay_from audit j log j.terms.limit (first_state j) [] ≡ replay_next audit j log end (replay_from audit j log (a.left - 1))
-      whole = one_more ∙ from_step audit j log (a.left - 1) here (on end) n.is
+    whole : replay_from audit j log j.terms.limit (first_state j) [] ≡ replay_next audit j log end (replay_from audit j log (a.left - 1))
+    whole = one_more ∙ from_step audit j log (a.left - 1) here (on end) n.is
 
-      over-same : over_used j users' ≡ over_count j end.state.trees
-      over-same = over-is j n.kept
+    over-same : over_used j users' ≡ over_count j end.state.trees
+    over-same = over-is j n.kept
 
-      abbrev moved : Progress
-      moved = moved_on j end
+    abbrev moved : Progress
+    moved = moved_on j end
 
-      end_so : {b : Bool} → both audit (leb (length log) t'.words) ≡ b → both audit (at_end log end.records) ≡ b
-      end_so e = ap (λ (k : ℕ). both audit (leb (length log) k)) (sym n.at.tallied.words-is) ∙ e
+    end_so : {b : Bool} → both audit (leb (length log) t'.words) ≡ b → both audit (at_end log end.records) ≡ b
+    end_so e = ap (λ (k : ℕ). both audit (leb (length log) k)) (sym n.at.tallied.words-is) ∙ e
 
-      -- it is the limit's
-      last-is : leb j.terms.limit end.state.iteration ≡ eqb t'.iteration j.terms.limit
-      last-is =
+    -- it is the limit's
+    last-is : leb j.terms.limit end.state.iteration ≡ eqb t'.iteration j.terms.limit
+    last-is =
+        let is = n.at.iteration-is in
+        let made = n.at.can.iteration-is in
+        let below = n.at.can.below in
+        by_test (eqb t'.iteration j.terms.limit)
+        (λ q.
+        let e : t'.iteration ≡ j.terms.limit = eqb-true t'.iteration j.terms.limit q in
+        le-leb j.terms.limit end.state.iteration (omega arith) ∙ sym q)
+        (λ q.
+        let l : t'.iteration < j.terms.limit =
+        ⊎_elim (λ (e : t'.iteration ≡ j.terms.limit). absurd (true≢false (sym (eq-eqb t'.iteration j.terms.limit e) ∙ q))) (λ l. l) (eq-or-lt_of_le (omega arith)) in
+        lt-leb j.terms.limit end.state.iteration (omega arith) ∙ sym q)
+
+    -- the nodes over capacity are counted
+    module _ (over' : ℕ) (counts : over' ≡ over_used j users') where
+      over_so : over' ≡ over_count j end.state.trees
+      over_so = counts ∙ over-same
+
+      abbrev stop : Bool
+      stop = either (eqb over' 0) (eqb t'.iteration j.terms.limit)
+
+      stop_is : either (eqb (over_count j end.state.trees) 0) (leb j.terms.limit end.state.iteration) ≡ stop
+      stop_is = rw (last-is, ← over_so)
+
+      -- an audit's words end behind it
+      ends_whole : both audit (leb (length log) t'.words) ≡ true → LogEnds audit j log (told_of t' t'.iteration over') ends
+      unfolding move_on
+      ends_whole e =
+          let q : both audit (at_end log end.records) ≡ true = end_so e in
+          record {
+            progress = moved;
+            is = whole ∙ rw q;
+            told_at =
+                record {
+                  turns-is = n.at.tallied.turns-is;
+                  words-is = n.at.tallied.words-is;
+                  whole_is = ap (λ (k : ℕ). k + 1) n.at.iteration-is;
+                  over-is = over_so;
+                };
+          }
+
+      stops : both audit (leb (length log) t'.words) ≡ false → stop ≡ true → replay_from audit j log j.terms.limit (first_state j) [] ≡ off t'.words
+      stops e s =
+          let q : both audit (at_end log end.records) ≡ false = end_so e in
+          whole ∙ rw (q, stop_is, s) (ap off (sym n.at.tallied.words-is))
+
+      -- what is answered then
+      pub take_whole :
+          (e : Stopped) → Err e ≡ whole_as audit t' over' j.terms.limit (length log)
+          → (history'' users'' marks'' from'' to'' dues'' : List ℕ) → LogTaken audit (Err e) j history'' users'' marks'' from'' to'' dues'' log
+      take_whole r is history'' users'' marks'' from'' to'' dues'' =
+          by_test (both audit (leb (length log) t'.words))
+          (λ e. taken_as (Err (Ends (told_of t' t'.iteration over'))) (whole_said_ends audit t' over' j.terms.limit (length log) e) (ends_whole e))
+          (λ e.
+          by_test stop
+          (λ s. taken_as (Err (Off t'.words)) (whole_said_off audit t' over' j.terms.limit (length log) e s) (stops e s))
+          (λ s. absurd (on_err (sym (is ∙ whole_said_on audit t' over' j.terms.limit (length log) e s)))))
+        where
+          taken_as : (x : Result Tariff Stopped) → whole_as audit t' over' j.terms.limit (length log) ≡ x → LogTaken audit x j history'' users'' marks'' from'' to'' dues'' log
+              → LogTaken audit (Err r) j history'' users'' marks'' from'' to'' dues'' log
+          taken_as x e l = subst (λ (y : Result Tariff Stopped). LogTaken audit y j history'' users'' marks'' from'' to'' dues'' log) (sym (is ∙ e)) l
+
+    -- in the same iteration, so that the next one lowers the measure
+    pub same-iteration : t'.iteration ≡ t.iteration
+    same-iteration = n.at.iteration-is ∙ n.same ∙ sym a.ready.iteration-is
+
+    -- or the run can go on
+    module _ (over' : ℕ) (counts : over' ≡ over_used j users') {t'' : Tariff}
+        (goes : Ok t'' ≡ whole_as audit t' over' j.terms.limit (length log)) where
+      said : WholeOn audit t' over' j.terms.limit (length log) t''
+      said = whole_said_so audit t' over' j.terms.limit (length log) goes
+
+      more-words : both audit (at_end log end.records) ≡ false
+      more-words = end_so said.more
+
+      goes-still : either (eqb (over_count j end.state.trees) 0) (leb j.terms.limit end.state.iteration) ≡ false
+      goes-still = stop_is over' counts ∙ said.unsettled
+
+      pub low : t'.iteration < j.terms.limit
+      low = next-below j n (eqb-false t'.iteration j.terms.limit (either_no (eqb over' 0) (eqb t'.iteration j.terms.limit) said.unsettled))
+
+      can-next : CanGoOn j moved
+      unfolding move_on
+      can-next =
+          let c = n.at.can in
+          let made = c.iteration-is in
           let is = n.at.iteration-is in
-          let made = n.at.can.iteration-is in
-          let below = n.at.can.below in
-          by_test (eqb t'.iteration j.terms.limit)
+          let l = low in
+          record {
+            made = suc c.made;
+            below = omega arith;
+            iteration-is = omega arith;
+            grown = grown-on j sound end.state c.made c.grown;
+            trees-long = c.trees-long;
+          }
+
+      -- in the log, or behind it
+      ended : (more' : Bool) → more' ≡ ltb t'.words (length log)
+          → replay_from audit j log j.terms.limit (first_state j) [] ≡ choose more' (replay_from audit j log (a.left - 1) moved.state moved.records) (on moved)
+      ended more' e =
+          let words_are = n.at.tallied.words-is in
+          by_test (ltb t'.words (length log))
           (λ q.
-          let e : t'.iteration ≡ j.terms.limit = eqb-true t'.iteration j.terms.limit q in
-          le-leb j.terms.limit end.state.iteration (omega arith) ∙ sym q)
+          let l = ltb-true t'.words (length log) q in
+          whole ∙ rw (e, q, more-words, goes-still, lt-leb (length log) (length (encode end.records)) (omega arith)))
           (λ q.
-          let l : t'.iteration < j.terms.limit =
-          ⊎_elim (λ (e : t'.iteration ≡ j.terms.limit). absurd (true≢false (sym (eq-eqb t'.iteration j.terms.limit e) ∙ q))) (λ l. l) (eq-or-lt_of_le (omega arith)) in
-          lt-leb j.terms.limit end.state.iteration (omega arith) ∙ sym q)
+          let l = ltb-false t'.words (length log) q in
+          whole ∙ rw (e, q, more-words, goes-still, le-leb (length log) (length (encode end.records)) (omega arith)))
 
-      -- the nodes over capacity are counted
-      module _ (over' : ℕ) (counts : over' ≡ over_used j users') where
-        over_so : over' ≡ over_count j end.state.trees
-        over_so = counts ∙ over-same
+      -- what it starts from
+      module _ {t''' : Tariff} (next-is : t''' ≡ started_tariff (ended_tariff j.terms.tuning t'')) where
+        started : t''' ≡ started_tariff (ended_tariff j.terms.tuning t')
+        started = next-is ∙ ap (λ (x : Tariff). started_tariff (ended_tariff j.terms.tuning x)) said.same
 
-        abbrev stop : Bool
-        stop = either (eqb over' 0) (eqb t'.iteration j.terms.limit)
+        words_same : t'''.words ≡ t'.words
+        words_same = ap (λ (x : Tariff). x.words) started
 
-        stop_is : either (eqb (over_count j end.state.trees) 0) (leb j.terms.limit end.state.iteration) ≡ stop
-        stop_is = rw (last-is, ← over_so)
+        module _ {dues' : List ℕ} (due-long : length dues' ≡ nets j) {history' : List ℕ} (grown-so : history' ≡ up_to (grow j n.kept) (length history)) where
+          ready_next : Ready j moved t''' history' users' marks' from' to' dues' log
+          unfolding move_on
+          ready_next =
+              let e = started in
+              let now = n.at.iteration-is in
+              record {
+                can = can-next;
+                iteration-is = ap (λ (x : Tariff). x.iteration) e ∙ ap (λ (k : ℕ). k + 1) now;
+                factor-is =
+                    ap (λ (x : Tariff). x.factor) e ∙ ap (λ (k : ℕ). next_factor j.terms.tuning k t'.factor) now
+                    ∙ ap (λ (k : ℕ). next_factor j.terms.tuning end.state.iteration k) n.at.factor-is;
+                kept = kept-moved j n.kept (taking-long j a).0 grown-so;
+                due-long = due-long;
+                tallied =
+                    record {
+                      turns-is = ap (λ (x : Tariff). x.turns) e ∙ n.at.tallied.turns-is;
+                      words-is = words_same ∙ n.at.tallied.words-is;
+                      log_is = n.at.tallied.log_is;
+                      fits = n.at.tallied.fits;
+                    };
+              }
 
-        -- an audit's words end behind it
-        ends_whole : both audit (leb (length log) t'.words) ≡ true → LogEnds audit j log (told_of t' t'.iteration over') ends
-        unfolding move_on
-        ends_whole e =
-            let q : both audit (at_end log end.records) ≡ true = end_so e in
-            record {
-              progress = moved;
-              is = whole ∙ rw q;
-              told_at =
-                  record {
-                    turns-is = n.at.tallied.turns-is;
-                    words-is = n.at.tallied.words-is;
-                    whole_is = ap (λ (k : ℕ). k + 1) n.at.iteration-is;
-                    over-is = over_so;
-                  };
-            }
+          -- in the log
+          pub take_next : t'''.words < length log → Taking audit j over' t''' history' users' marks' from' to' dues' log
+          unfolding move_on
+          take_next l =
+              let is = a.left_is in
+              let left-some = some_left in
+              let same = n.same in
+              let low : t'.words < length log = rw words_same at l in
+              record {
+                progress = moved;
+                left = a.left - 1;
+                left_is = omega arith;
+                over-is = over_so over' counts;
+                is = ended true (sym (lt-ltb t'.words (length log) low));
+                ready = ready_next;
+              }
 
-        stops : both audit (leb (length log) t'.words) ≡ false → stop ≡ true → replay_from audit j log j.terms.limit (first_state j) [] ≡ off t'.words
-        stops e s =
-            let q : both audit (at_end log end.records) ≡ false = end_so e in
-            whole ∙ rw (q, stop_is, s) (ap off (sym n.at.tallied.words-is))
-
-        -- what is answered then
-        pub take_whole :
-            (e : Stopped) → Err e ≡ whole_as audit t' over' j.terms.limit (length log)
-            → (history'' users'' marks'' from'' to'' dues'' : List ℕ) → LogTaken audit (Err e) j history'' users'' marks'' from'' to'' dues'' log
-        take_whole r is history'' users'' marks'' from'' to'' dues'' =
-            by_test (both audit (leb (length log) t'.words))
-            (λ e. taken_as (Err (Ends (told_of t' t'.iteration over'))) (whole_said_ends audit t' over' j.terms.limit (length log) e) (ends_whole e))
-            (λ e.
-            by_test stop
-            (λ s. taken_as (Err (Off t'.words)) (whole_said_off audit t' over' j.terms.limit (length log) e s) (stops e s))
-            (λ s. absurd (on_err (sym (is ∙ whole_said_on audit t' over' j.terms.limit (length log) e s)))))
-          where
-            taken_as : (x : Result Tariff Stopped) → whole_as audit t' over' j.terms.limit (length log) ≡ x → LogTaken audit x j history'' users'' marks'' from'' to'' dues'' log
-                → LogTaken audit (Err r) j history'' users'' marks'' from'' to'' dues'' log
-            taken_as x e l = subst (λ (y : Result Tariff Stopped). LogTaken audit y j history'' users'' marks'' from'' to'' dues'' log) (sym (is ∙ e)) l
-
-      -- in the same iteration, so that the next one lowers the measure
-      pub same-iteration : t'.iteration ≡ t.iteration
-      same-iteration = n.at.iteration-is ∙ n.same ∙ sym a.ready.iteration-is
-
-      -- or the run can go on
-      module _ (over' : ℕ) (counts : over' ≡ over_used j users') {t'' : Tariff}
-          (goes : Ok t'' ≡ whole_as audit t' over' j.terms.limit (length log)) where
-        said : WholeOn audit t' over' j.terms.limit (length log) t''
-        said = whole_said_so audit t' over' j.terms.limit (length log) goes
-
-        more-words : both audit (at_end log end.records) ≡ false
-        more-words = end_so said.more
-
-        goes-still : either (eqb (over_count j end.state.trees) 0) (leb j.terms.limit end.state.iteration) ≡ false
-        goes-still = stop_is over' counts ∙ said.unsettled
-
-        pub low : t'.iteration < j.terms.limit
-        low = next-below j n (eqb-false t'.iteration j.terms.limit (either_no (eqb over' 0) (eqb t'.iteration j.terms.limit) said.unsettled))
-
-        can-next : CanGoOn j moved
-        unfolding move_on
-        can-next =
-            let c = n.at.can in
-            let made = c.iteration-is in
-            let is = n.at.iteration-is in
-            let l = low in
-            record {
-              made = suc c.made;
-              below = omega arith;
-              iteration-is = omega arith;
-              grown = grown-on j sound end.state c.made c.grown;
-              trees-long = c.trees-long;
-            }
-
-        -- in the log, or behind it
-        ended : (more' : Bool) → more' ≡ ltb t'.words (length log)
-            → replay_from audit j log j.terms.limit (first_state j) [] ≡ choose more' (replay_from audit j log (a.left - 1) moved.state moved.records) (on moved)
-        ended more' e =
-            let words_are = n.at.tallied.words-is in
-            by_test (ltb t'.words (length log))
-            (λ q.
-            let l = ltb-true t'.words (length log) q in
-            whole ∙ rw (e, q, more-words, goes-still, lt-leb (length log) (length (encode end.records)) (omega arith)))
-            (λ q.
-            let l = ltb-false t'.words (length log) q in
-            whole ∙ rw (e, q, more-words, goes-still, le-leb (length log) (length (encode end.records)) (omega arith)))
-
-        pub take_next :
-            {dues' : List ℕ} → length dues' ≡ nets j → {history' : List ℕ} → history' ≡ up_to (grow j n.kept) (length history)
-            → {t''' : Tariff} → t''' ≡ started_tariff (ended_tariff j.terms.tuning t'') → {more' : Bool} → more' ≡ ltb t'''.words (length log)
-            → Taking audit j more' over' t''' history' users' marks' from' to' dues' log
-        unfolding move_on
-        take_next due-long grown-so {t'''} next-is {more'} m =
-            let e : t''' ≡ started_tariff (ended_tariff j.terms.tuning t') = next-is ∙ ap (λ (x : Tariff). started_tariff (ended_tariff j.terms.tuning x)) said.same in
-            let is = a.left_is in
-            let left-some = some_left in
-            let same = n.same in
-            let now = n.at.iteration-is in
-            let words_same = ap (λ (x : Tariff). x.words) e in
-            record {
-              progress = moved;
-              left = a.left - 1;
-              left_is = omega arith;
-              over-is = over_so over' counts;
-              is = ended more' (m ∙ ap (λ (k : ℕ). ltb k (length log)) words_same);
-              ready =
-                  record {
-                    can = can-next;
-                    iteration-is = ap (λ (x : Tariff). x.iteration) e ∙ ap (λ (k : ℕ). k + 1) now;
-                    factor-is =
-                        ap (λ (x : Tariff). x.factor) e ∙ ap (λ (k : ℕ). next_factor j.terms.tuning k t'.factor) now
-                        ∙ ap (λ (k : ℕ). next_factor j.terms.tuning end.state.iteration k) n.at.factor-is;
-                    kept = kept-moved j n.kept (taking-long j a).0 grown-so;
-                    due-long = due-long;
-                    tallied =
-                        record {
-                          turns-is = ap (λ (x : Tariff). x.turns) e ∙ n.at.tallied.turns-is;
-                          words-is = words_same ∙ n.at.tallied.words-is;
-                          log_is = n.at.tallied.log_is;
-                          fits = n.at.tallied.fits;
-                        };
-                  };
-            }
+          -- behind it
+          pub take_on : length log ≤ t'''.words → LogOn audit j t''' history' users' marks' from' to' dues' log
+          take_on l =
+              let end : length log ≤ t'.words = rw words_same at l in
+              record { progress = moved; is = ended false (sym (le-ltb t'.words (length log) end)); ready = ready_next }

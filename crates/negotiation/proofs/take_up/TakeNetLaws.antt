@@ -1,5 +1,4 @@
 -- The nets of an iteration in a lent log, as a loop follows them one after the other.
---     net_tables                          the tables that its turns read
 --     nets-start, net-ready               the nets so far, and the next one begins
 --     net_asks                            its turns can be followed
 --     nets-stopped                        they end the iteration
@@ -17,16 +16,15 @@ use native.Mathlib.Omega.{arith}
 use lib.ListN.{length, get_or}
 use Rattle.price.specs.Test.{choose}
 use Rattle.price.proofs.TestLaws.{by_test, true≢false, either_way}
-use Rattle.job.specs.Job.{Job, job_of, nodes, nets, net_sinks}
+use Rattle.job.specs.Job.{Job, nodes, nets, net_sinks}
 use Rattle.negotiation.specs.Routable.{Routable}
 use Rattle.negotiation.specs.Records.{Record, path_nodes}
 use Rattle.negotiation.specs.Machine.{State, Progress, with_net, due}
 use Rattle.negotiation.specs.Steps.{BeginReady, Begun, Idle, EndReady, Ended, Passed}
 use Rattle.negotiation.specs.Resume.{Replay, on, off, ends, not_cheapest, if_on, gone_to, replay_turns, replay_nets}
-use Rattle.negotiation.specs.TakeSteps.{NetTables, NetOpens, NetOn, ToldAt, NetEnds, NetTaken, NetsOpen, NetsOn, NetsEnd, NetsTaken}
-use Rattle.job.specs.declared.Terms.{Terms}
+use Rattle.negotiation.specs.TakeSteps.{NetPlaces, NetOpens, NetOn, ToldAt, NetEnds, NetTaken, NetsOpen, NetsOn, NetsEnd, NetsTaken}
 use Rattle.negotiation.specs.declared.tariff.Tariff.{Tariff}
-use Rattle.std.specs.Prelude.{Option, Some, None, Result, Ok, Err}
+use Rattle.std.specs.Prelude.{Result, Ok, Err}
 use Rattle.negotiation.specs.declared.take_up.Stopped.{Stopped}
 use Rattle.negotiation.specs.declared.take_up.Stopped.TheVariants.{Off, Ends, NotCheapest}
 use Rattle.negotiation.specs.declared.take_up.Told.{Told}
@@ -51,15 +49,6 @@ on_same {t} e = ap (tariff_in t) e
 
 pub on_err : {t : Tariff} {e : Stopped} → ◌≡◌ {A = Result Tariff Stopped} (Ok t) (Err e) → ⊥
 on_err q = true≢false (ap is_on q)
-
--- ---- the tables of a net
-
-pub net_tables :
-    (kinds capacities first_edges edge_targets sources first_sinks sinks delays criticalities : List ℕ) (terms : Terms) (i : ℕ) {timed : Bool} → timed ≡ terms.timed
-    → NetTables (job_of kinds capacities first_edges edge_targets sources first_sinks sinks delays criticalities terms) i delays criticalities timed
-    (get_or first_sinks i 0) (get_or first_sinks (i + 1) 0)
-net_tables kinds capacities first_edges edge_targets sources first_sinks sinks delays criticalities terms i e =
-    record { timed_is = e; from_is = refl; to_is = refl; delays_are = λ w. rw (sym e ∙ w); criticalities_are = λ w. rw (sym e ∙ w) }
 
 -- ---- the nets so far
 
@@ -140,14 +129,14 @@ module _ (j : Job) (sound : Routable j) {audit : Bool} {p : Progress} {i : ℕ} 
     is-due some =
         by_test (due j p.state i) (λ d. d) (λ d. absurd (let z = (without (unmarked d)).none_left in omega arith))
 
-    module _ {delays criticalities : List ℕ} {timed : Bool} {low high : ℕ} (tables : NetTables j i delays criticalities timed low high) where
-      net_opens : due j p.state i ≡ true → NetOpens j here i delays criticalities timed low high turns t history users' marks' log
+    module _ {low high : ℕ} (places : NetPlaces j i low high) where
+      net_opens : due j p.state i ≡ true → NetOpens j here i low high turns t history users' marks' log
       unfolding path_nodes
       net_opens d =
           record {
             routable = sound;
             net = hi;
-            tables = tables;
+            places = places;
             at = at.at;
             some = let all = turns_are d in let sinks = due_some j p.state i d in omega arith;
             turns-is = turns_are d;
@@ -157,13 +146,13 @@ module _ (j : Job) (sound : Routable j) {audit : Bool} {p : Progress} {i : ℕ} 
           }
 
       -- its turns can be followed
-      pub net_asks : 0 < turns → NetOpens j here i delays criticalities timed low high turns t history users' marks' log
+      pub net_asks : 0 < turns → NetOpens j here i low high turns t history users' marks' log
       net_asks some = net_opens (is-due some)
 
       -- what they come to, in a walk that tells of so many nodes over capacity
       module _ (over : ℕ) {r : Result Tariff Stopped} {marks'' : List ℕ} (none : turns ≡ 0 → (r ≡ Ok t) × (marks'' ≡ marks'))
           (answer :
-          NetOpens j here i delays criticalities timed low high turns t history users' marks' log
+          NetOpens j here i low high turns t history users' marks' log
           → NetTaken (record { audit = audit; over = over }) r j here i marks'' log) where
         abbrev walk : Walk
         walk = record { audit = audit; over = over }

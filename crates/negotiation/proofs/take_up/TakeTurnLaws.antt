@@ -32,6 +32,8 @@ use Rattle.search.specs.Tables.{Graph}
 use Rattle.search.proofs.BlockLaws.{graph_of_lem}
 use Rattle.search.proofs.DistinctLaws.{has_cons, lacks}
 use Rattle.job.specs.Job.{Job, nodes, source, net_sinks}
+use Rattle.job.specs.Lent.{job_in}
+use Rattle.job.specs.declared.JobTables.{JobTables}
 use Rattle.negotiation.specs.Records.{Record, encode, words, path_nodes}
 use Rattle.negotiation.specs.Routable.{Routable}
 use Rattle.negotiation.specs.Order.{turn_sinks}
@@ -45,7 +47,7 @@ use Rattle.negotiation.specs.Resume.{record_path, record_in, whole_record, cost_
 use Rattle.negotiation.specs.ResumeSteps.{named_cost, turn_passes}
 use Rattle.negotiation.specs.TakeSteps.{TakenTo, told_of, tried_as, goals_of, TryReady, tried_passes, tried_least, NetOpens, NetOn, ToldAt, NetTaken}
 use Rattle.negotiation.specs.declared.tariff.Tariff.{Tariff}
-use Rattle.std.specs.Prelude.{Option, Some, None, Result, Ok, Err}
+use Rattle.std.specs.Prelude.{Result, Ok, Err}
 use Rattle.negotiation.specs.declared.take_up.Stopped.{Stopped}
 use Rattle.negotiation.specs.declared.take_up.Walk.{Walk}
 use Rattle.negotiation.proofs.MemberLaws.{every-has, every_members, no_entry}
@@ -218,8 +220,8 @@ pub record Following (audit : Bool) (j : Job) (p : Progress) (i left : ℕ) (t :
   pub below : AllBelow (nodes j) (path_nodes made)
   pub source-on : (made ≡ []) ⊎ (has (source j i) (path_nodes made) ≡ true)
 
-module _ (j : Job) {p : Progress} {i : ℕ} {delays criticalities : List ℕ} {timed : Bool} {from to turns : ℕ} {t₀ : Tariff} {history users marks₀ log : List ℕ}
-    (o : NetOpens j p i delays criticalities timed from to turns t₀ history users marks₀ log) where
+module _ (j : Job) {p : Progress} {i from to turns : ℕ} {t₀ : Tariff} {history users marks₀ log : List ℕ}
+    (o : NetOpens j p i from to turns t₀ history users marks₀ log) where
   -- none, at first
   pub follow_start : (audit : Bool) → Following audit j p i turns t₀ marks₀ log
   unfolding path_nodes
@@ -244,10 +246,10 @@ module _ (j : Job) {p : Progress} {i : ℕ} {delays criticalities : List ℕ} {t
   part = take (to - from) (drop from j.sinks)
 
   pub part-order : from ≤ to
-  part-order = rw (o.tables.from_is, o.tables.to_is) (o.routable.sinks-order i o.net)
+  part-order = rw (o.places.from_is, o.places.to_is) (o.routable.sinks-order i o.net)
 
   pub part-within : to ≤ length j.sinks
-  part-within = rw o.tables.to_is (o.routable.sinks-end (i + 1) (let h = o.net in omega arith))
+  part-within = rw o.places.to_is (o.routable.sinks-end (i + 1) (let h = o.net in omega arith))
 
   pub part_small : to ≤ sinks_most
   part_small = let within = part-within in let few = o.routable.sinks-few in omega arith
@@ -259,7 +261,7 @@ module _ (j : Job) {p : Progress} {i : ℕ} {delays criticalities : List ℕ} {t
   pub part-below : (n : ℕ) → n ≡ length marks₀ → AllBelow n part
   part-below n same =
       let long : length marks₀ ≡ nodes j = ap length o.marks_is ∙ marks_length j (source j i ∷ []) in
-      rw (same ∙ long, sinks-here o.tables) (o.routable.sink-node i o.net)
+      rw (same ∙ long, sinks-here o.places) (o.routable.sink-node i o.net)
 
 -- a record is tested by a pass
 same_test :
@@ -275,9 +277,12 @@ same_test j g s i tree marks inside long marked goals price tried iteration ws t
 
 -- ---- the next turn
 
-module _ (j : Job) {p : Progress} {i : ℕ} {delays criticalities : List ℕ} {timed : Bool} {from to turns : ℕ} {t₀ : Tariff} {history users marks₀ log : List ℕ}
-    (o : NetOpens j p i delays criticalities timed from to turns t₀ history users marks₀ log) {audit : Bool} {left : ℕ} {t : Tariff} {marks : List ℕ}
-    (f : Following audit j p i left t marks log) where
+module _ (tables : JobTables) {p : Progress} {i from to turns : ℕ} {t₀ : Tariff} {history users marks₀ log : List ℕ}
+    (o : NetOpens (job_in tables) p i from to turns t₀ history users marks₀ log) {audit : Bool} {left : ℕ} {t : Tariff} {marks : List ℕ}
+    (f : Following audit (job_in tables) p i left t marks log) where
+  abbrev j : Job
+  j = job_in tables
+
   abbrev tree : List ℕ
   tree = tree_from j i f.made
 
@@ -303,21 +308,21 @@ module _ (j : Job) {p : Progress} {i : ℕ} {delays criticalities : List ℕ} {t
   tree-marked = marks_of_lem j tree inside f.marks_is
 
   -- it can be tested
-  pub follow_ready : {work : List ℕ} → 8 * nodes j ≤ length work → TryReady j.block j.sinks delays criticalities timed from to t history users marks work log
+  pub follow_ready : {work : List ℕ} → 8 * nodes j ≤ length work → TryReady tables from to t history users marks work log
   follow_ready enough =
-      try_ready o.tables o.routable o.net tree f.marks_is p.state t history users f.at.factor-is o.history_is o.users-is state-ready
+      try_ready tables o.places o.routable o.net tree f.marks_is p.state t history users f.at.factor-is o.history_is o.users-is state-ready
       enough (le_trans (le_of_eq f.at.tallied.words-is) f.at.tallied.fits)
 
   -- what its test says
   abbrev passes : Bool
-  passes = tried_passes j.block j.sinks delays criticalities timed from to t i history users marks (drop t.words log)
+  passes = tried_passes tables from to t i history users marks (drop t.words log)
 
   passes_is : passes ≡ turn_follows j p.state i tree there
   passes_is =
       same_test j graph p.state i tree marks inside tree-long tree-marked
       (all-nodes (nodes j) (turn_sinks j i tree) (turn-nodes j o.routable i o.net tree)) _ _ t.iteration (drop t.words log) there
-      (price-is o.tables o.routable o.net tree f.marks_is p.state t history users f.at.factor-is o.history_is o.users-is)
-      (tried-is o.tables o.routable o.net tree f.marks_is) f.at.iteration-is words-here
+      (price-is tables o.places o.routable o.net tree f.marks_is p.state t history users f.at.factor-is o.history_is o.users-is)
+      (tried-is tables o.places o.routable o.net tree f.marks_is) f.at.iteration-is words-here
 
   -- its words end here
   abbrev ended : Bool
@@ -328,10 +333,10 @@ module _ (j : Job) {p : Progress} {i : ℕ} {delays criticalities : List ℕ} {t
 
   -- what it costs at least, where that is asked for
   abbrev least : ℕ
-  least = tried_least j.block j.sinks delays criticalities timed from to t audit history users marks
+  least = tried_least tables from to t audit history users marks
 
   least_so : least ≡ choose audit (least_cost j p.state i tree) far
-  least_so = least-is o.tables o.routable o.net tree f.marks_is p.state t history users f.at.factor-is o.history_is o.users-is audit
+  least_so = least-is tables o.places o.routable o.net tree f.marks_is p.state t history users f.at.factor-is o.history_is o.users-is audit
 
   -- how far an audit came, if it ends here
   told_here : (over : ℕ) → ToldAt (p.records ++ f.made) p.state.iteration over (told_of t (t.iteration - 1) over)
@@ -346,7 +351,7 @@ module _ (j : Job) {p : Progress} {i : ℕ} {delays criticalities : List ℕ} {t
   -- a sink is missing
   module _ {place : ℕ} (first : FirstUnmarked marks (part j o) 0 place) (some : place < to - from) where
     still_open : all_joined j i f.made ≡ false
-    still_open = not_joined j i f.made tree-marked (sinks-here o.tables) first (let long = part-long j o in omega arith)
+    still_open = not_joined j i f.made tree-marked (sinks-here o.places) first (let long = part-long j o in omega arith)
 
     -- no turn is left
     pub follow_out : left ≡ 0 → replay_turns audit j log i p (length (net_sinks j i)) [] ≡ off t.words
@@ -518,7 +523,7 @@ module _ (j : Job) {p : Progress} {i : ℕ} {delays criticalities : List ℕ} {t
   -- none is missing
   module _ {place : ℕ} (first : FirstUnmarked marks (part j o) 0 place) (none : to - from ≤ place) where
     joined : all_joined j i f.made ≡ true
-    joined = all_joined_lem j i f.made tree-marked (sinks-here o.tables) first (let long = part-long j o in omega arith)
+    joined = all_joined_lem j i f.made tree-marked (sinks-here o.places) first (let long = part-long j o in omega arith)
 
     -- the net has a sink, so it has made a turn
     some_made : f.made ≡ [] → ⊥

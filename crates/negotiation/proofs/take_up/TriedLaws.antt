@@ -23,20 +23,23 @@ use Rattle.price.proofs.ListLaws.{part_slice, has-at, has_place, length_up_to, g
 use Rattle.search.specs.Block.{Block}
 use Rattle.search.specs.Block as block
 use Rattle.search.specs.Distance.{far, tree_has}
-use Rattle.search.specs.Turn.{weighed_congestion, price_at, turn}
+use Rattle.search.specs.Turn.{Congestion, weighed_congestion, price_at, turn}
+use Rattle.search.specs.Lent.{block_in}
 use Rattle.search.specs.Replies.{sink_list_sound}
 use Rattle.search.specs.Priceable.{PriceReady}
 use Rattle.search.proofs.BlockLaws.{kinds-few, capacities-long}
 use Rattle.job.specs.Job.{Job, nodes, nets, net_sinks}
+use Rattle.job.specs.Lent.{job_in}
 use Rattle.job.specs.Steps.{AllBelow, Stored}
+use Rattle.job.specs.declared.JobTables.{JobTables}
 use Rattle.negotiation.specs.Routable.{Routable}
-use Rattle.negotiation.specs.Order.{weighting_due, turn_sinks, turn_weighting, turn_congestion}
+use Rattle.negotiation.specs.Order.{turn_sinks, turn_weighting, turn_congestion}
 use Rattle.negotiation.specs.OrderSteps.{TriedSinks}
 use Rattle.negotiation.specs.Machine.{State, others_of, marks_of, congestion_for}
 use Rattle.negotiation.specs.Resume.{turn_price, least_cost}
 use Rattle.negotiation.specs.ResumeSteps.{RecordReady, named_cost, frame_follows, turn_passes, least_asked}
 use Rattle.negotiation.specs.Steps.{TurnReady}
-use Rattle.negotiation.specs.TakeSteps.{judged_as, tried_as, tried_here, congestion_here, goals_of, TryReady, tried_passes, tried_least, NetTables}
+use Rattle.negotiation.specs.TakeSteps.{judged_as, tried_as, tried_here, weighting_here, congestion_here, goals_of, TryReady, tried_passes, tried_least, NetPlaces}
 use Rattle.negotiation.specs.declared.order.Tried.{Tried}
 use Rattle.negotiation.specs.declared.take_up.Stopped.{Stopped}
 use Rattle.negotiation.specs.declared.take_up.Walk.{Walk}
@@ -84,10 +87,20 @@ module _ (n : ℕ) (few : n ≤ nodes_most) (part : List ℕ) where
     lent_are : take n (ys ++ drop n none) ≡ goals_of n part
     lent_are = subst (λ (k : ℕ). take k (ys ++ drop n none) ≡ ys) ys_long (take-append_seam ys (drop n none)) ∙ ys_are
 
-module _ {b : Block} {sinks delays criticalities : List ℕ} {timed : Bool} {from to : ℕ} {t : Tariff} {history users marks work log : List ℕ}
-    (ready : TryReady b sinks delays criticalities timed from to t history users marks work log) {next : Tried} (found : TriedSinks timed marks sinks criticalities from to next) where
+module _ {tables : JobTables} {from to : ℕ} {t : Tariff} {history users marks work log : List ℕ} (ready : TryReady tables from to t history users marks work log)
+    {next : Tried} (found : TriedSinks tables.terms.timed marks tables.sink.now tables.criticality.now from to next) where
+  abbrev b : Block
+  b = block_in tables.block
+
+  abbrev sinks : List ℕ
+  sinks = tables.sink.now
+
   abbrev tried : List ℕ
-  tried = tried_here sinks delays criticalities timed from to marks
+  tried = tried_here tables from to marks
+
+  -- what prices it
+  abbrev congestion : Congestion
+  congestion = weighed_congestion next.weighting tables.delay.now t.factor history users
 
   abbrev part : List ℕ
   part = take (next.to - next.from) (drop next.from sinks)
@@ -118,18 +131,18 @@ module _ {b : Block} {sinks delays criticalities : List ℕ} {timed : Bool} {fro
   goals-asked k l =
       let x : ℕ = get_or part k 0 in
       let on : has x tried ≡ true = subst (λ (xs : List ℕ). has x xs ≡ true) part-is (has-at part k l) in
-      let low = listed_below x (tried-listed timed (tree_has marks) (slice from to sinks) (slice from to criticalities) x on) in
+      let low = listed_below x (tried-listed _ (tree_has marks) (slice from to sinks) _ x on) in
       let long = first_long (block.nodes b) few part in
       omega arith
 
   -- and of their search
-  pub least_asks : TurnReady b (weighed_congestion next.weighting delays t.factor history users) marks work × (sink_list_sound (block.nodes b) part ≡ true)
+  pub least_asks : TurnReady b congestion marks work × (sink_list_sound (block.nodes b) part ≡ true)
   least_asks = (rw found.weighting-is ready.searchable, rw part-is ready.sinks_sound_lem)
 
   pub least_said :
       (audit : Bool) {least : ℕ}
-      → least ≡ least_asked audit (turn b (price_at b (weighed_congestion next.weighting delays t.factor history users)) marks part)
-      → least ≡ tried_least b sinks delays criticalities timed from to t audit history users marks
+      → least ≡ least_asked audit (turn b (price_at b congestion) marks part)
+      → least ≡ tried_least tables from to t audit history users marks
   least_said audit e = rw (found.weighting-is, part-is) at e
 
   module _ {ys : List ℕ} (given : Stored 1 part (take (block.nodes b) none) ys) where
@@ -143,7 +156,7 @@ module _ {b : Block} {sinks delays criticalities : List ℕ} {timed : Bool} {fro
     goals-on = lent_are (block.nodes b) few part given ∙ ap (goals_of (block.nodes b)) part-is
 
     -- the record is tested with them
-    pub tried-tested : RecordReady b (weighed_congestion next.weighting delays t.factor history users) goals marks log t.words
+    pub tried-tested : RecordReady b congestion goals marks log t.words
     tried-tested = rw (goals-on, found.weighting-is) ready.tested
 
     -- as the call answers
@@ -152,14 +165,14 @@ module _ {b : Block} {sinks delays criticalities : List ℕ} {timed : Bool} {fro
         {count : Option ℕ}
         (answer :
         count
-        ≡ choose (turn_passes b (price_at b (weighed_congestion next.weighting delays t.factor history users)) goals marks t.iteration net (drop t.words log))
+        ≡ choose (turn_passes b (price_at b congestion) goals marks t.iteration net (drop t.words log))
         (Some (6 + get_or (drop t.words log) 5 0)) None)
       where
         abbrev ws : List ℕ
         ws = drop t.words log
 
         abbrev passes : Bool
-        passes = tried_passes b sinks delays criticalities timed from to t net history users marks ws
+        passes = tried_passes tables from to t net history users marks ws
 
         count-is : count ≡ choose passes (Some (6 + get_or ws 5 0)) None
         count-is = rw (goals-on, found.weighting-is) at answer
@@ -179,53 +192,56 @@ module _ {b : Block} {sinks delays criticalities : List ℕ} {timed : Bool} {fro
 
         pub tried_said :
             (walk : Walk) {end : Bool} {least : ℕ} {r : Result ℕ Stopped} → end ≡ both walk.audit (leb (length log) t.words) → end ≡ false
-            → least ≡ tried_least b sinks delays criticalities timed from to t walk.audit history users marks → r ≡ judged_as t walk.over count (named_cost ws) least
+            → least ≡ tried_least tables from to t walk.audit history users marks → r ≡ judged_as t walk.over count (named_cost ws) least
             → r
-            ≡ tried_as t walk (leb (length log) t.words) passes ws (tried_least b sinks delays criticalities timed from to t walk.audit history users marks)
+            ≡ tried_as t walk (leb (length log) t.words) passes ws (tried_least tables from to t walk.audit history users marks)
         unfolding tried_as
         tried_said walk ends on least-is is = rw (← ends, on, ← least-is, ← count-is) is
 
 -- ---- the job's turn
 
-module _ {j : Job} {i : ℕ} {delays criticalities : List ℕ} {timed : Bool} {from to : ℕ} (tables : NetTables j i delays criticalities timed from to) where
+module _ {j : Job} {i from to : ℕ} (places : NetPlaces j i from to) where
   pub sinks-here : take (to - from) (drop from j.sinks) ≡ net_sinks j i
   unfolding net_sinks
-  sinks-here = part_slice from to j.sinks ∙ rw (tables.from_is, tables.to_is)
+  sinks-here = part_slice from to j.sinks ∙ rw (places.from_is, places.to_is)
 
-  weighed : j.terms.timed ≡ true → timed ≡ true
-  weighed w = tables.timed_is ∙ w
+-- tables 9 and 10 are read in a timed job
+lent : (tables : JobTables) → Lent (job_in tables) tables.delay.now tables.criticality.now
+lent tables = record { delays_are = λ w. rw w; criticalities_are = λ w. rw w }
 
-  lent : Lent j delays criticalities
-  lent = record { delays_are = λ w. tables.delays_are (weighed w); criticalities_are = λ w. tables.criticalities_are (weighed w) }
+module _ (tables : JobTables) {i from to : ℕ} (places : NetPlaces (job_in tables) i from to) where
+  abbrev j : Job
+  j = job_in tables
+
+  weighs : (tree : List ℕ) → (turn_weighting j i tree).timed ≡ true → j.terms.timed ≡ true
+  weighs tree w = sym (weighting_timed j i tree) ∙ w
 
   module _ (sound : Routable j) (hi : i < nets j) (tree : List ℕ) {marks : List ℕ} (marked : marks ≡ marks_of j tree) where
-    pub tried-is : tried_here j.sinks delays criticalities timed from to marks ≡ turn_sinks j i tree
-    tried-is = rw (tables.timed_is, tables.from_is, tables.to_is) (keep.tried-is j sound i hi tree lent marked)
+    pub tried-is : tried_here tables from to marks ≡ turn_sinks j i tree
+    tried-is = rw (places.from_is, places.to_is) (keep.tried-is j sound i hi tree (lent tables) marked)
 
-    weighting-is : weighting_due timed (tree_has marks) (slice from to j.sinks) (slice from to criticalities) ≡ turn_weighting j i tree
-    weighting-is = rw (tables.timed_is, tables.from_is, tables.to_is) (keep.weighting-is j sound i hi tree lent marked)
-
-    weighs : (turn_weighting j i tree).timed ≡ true → j.terms.timed ≡ true
-    weighs w = sym (weighting_timed j i tree) ∙ w
+    weighting-is : weighting_here tables from to marks ≡ turn_weighting j i tree
+    weighting-is = rw (places.from_is, places.to_is) (keep.weighting-is j sound i hi tree (lent tables) marked)
 
     module _ (s : State) (t : Tariff) (history users : List ℕ) (factor-is : t.factor ≡ s.factor) (history_is : history ≡ s.histories)
         (users-is : users ≡ up_to (others_of j s.trees i) (nodes j)) where
-      pub price-is : price_at j.block (congestion_here j.sinks delays criticalities timed from to marks t history users) ≡ turn_price j s i tree
+      pub price-is : price_at j.block (congestion_here tables from to marks t history users) ≡ turn_price j s i tree
       unfolding turn_congestion congestion_for
       price-is =
-          rw (tables.timed_is, tables.from_is, tables.to_is)
-          (keep.price-is j sound i hi tree lent marked t.factor history users ∙ rw (factor-is, history_is, users-is))
+          rw (places.from_is, places.to_is)
+          (keep.price-is j sound i hi tree (lent tables) marked t.factor history users ∙ rw (factor-is, history_is, users-is))
 
       -- so is what it costs at least
-      pub least-is : (audit : Bool) → tried_least j.block j.sinks delays criticalities timed from to t audit history users marks ≡ choose audit (least_cost j s i tree) far
+      pub least-is : (audit : Bool) → tried_least tables from to t audit history users marks ≡ choose audit (least_cost j s i tree) far
       unfolding least_asked least_cost
       least-is audit =
-          rw (tables.timed_is, tables.from_is, tables.to_is, keep.same_turn j sound i hi tree lent marked s t history users factor-is history_is users-is)
+          rw (places.from_is, places.to_is, keep.same_turn j sound i hi tree (lent tables) marked s t history users factor-is history_is users-is)
 
       -- ---- and it can be tested
 
       module _ (state-ready : StateReady j s) where
-        prices-ready : (v : ℕ) → v < nodes j → PriceReady j.block.kinds j.block.capacities (weighed_congestion (turn_weighting j i tree) delays t.factor history users) v
+        prices-ready :
+            (v : ℕ) → v < nodes j → PriceReady j.block.kinds j.block.capacities (weighed_congestion (turn_weighting j i tree) tables.delay.now t.factor history users) v
         prices-ready v h =
             let others-long : length users ≡ nodes j = ap length users-is ∙ length_up_to (others_of j s.trees i) (nodes j) in
             let history_long : length history ≡ nodes j = ap length history_is ∙ state-ready.long in
@@ -240,36 +256,36 @@ module _ {j : Job} {i : ℕ} {delays criticalities : List ℕ} {timed : Bool} {f
               has_history = omega arith;
               has-others = omega arith;
               has_delay = λ w.
-                  let same : length delays ≡ nodes j = ap length (lent.delays_are (weighs w)) ∙ (sound.timing (weighs w)).delays-long in
+                  let same : length tables.delay.now ≡ nodes j = ap length ((lent tables).delays_are (weighs tree w)) ∙ (sound.timing (weighs tree w)).delays-long in
                   omega arith;
               bounds =
                   record {
                     five = rw (factor-is, others, grown) bounds.five;
                     history_bound_lem = rw grown bounds.history_bound_lem;
-                    delay_most_lem = λ w. rw (lent.delays_are (weighs w)) (bounds.delay_most_lem w);
+                    delay_most_lem = λ w. rw ((lent tables).delays_are (weighs tree w)) (bounds.delay_most_lem w);
                     criticality_most_lem = bounds.criticality_most_lem;
                   };
             }
 
         pub try_ready :
             {work log : List ℕ} → 8 * nodes j ≤ length work → t.words ≤ length log
-            → TryReady j.block j.sinks delays criticalities timed from to t history users marks work log
+            → TryReady tables from to t history users marks work log
         try_ready enough within =
             let long : length marks ≡ nodes j = ap length marked ∙ marks_length j tree in
             record {
-              choosable = rw (tables.timed_is, tables.from_is, tables.to_is) (keep.tried-ready j sound i hi lent marks long);
+              choosable = rw (places.from_is, places.to_is) (keep.tried-ready j sound i hi (lent tables) marks long);
               tested =
                   rw weighting-is
                   (record {
                     sound = sound.block-sound;
                     prices = prices-ready;
-                    nodes-few = λ w. (sound.timing (weighs w)).nodes-few;
+                    nodes-few = λ w. (sound.timing (weighs tree w)).nodes-few;
                     marks_long = long;
                     goals-long = length_up_to _ (nodes j);
                     within = within;
                   });
               searchable =
-                  rw (tables.timed_is, tables.from_is, tables.to_is)
-                  (keep.turn-ready j sound i hi tree lent marked s state-ready t history users factor-is history_is users-is enough);
+                  rw (places.from_is, places.to_is)
+                  (keep.turn-ready j sound i hi tree (lent tables) marked s state-ready t history users factor-is history_is users-is enough);
               sinks_sound_lem = subst (λ (l : List ℕ). sink_list_sound (nodes j) l ≡ true) (sym tried-is) (keep.turn-searched j sound i hi tree);
             }

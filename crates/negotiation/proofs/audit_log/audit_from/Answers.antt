@@ -14,8 +14,7 @@ use Rattle.negotiation.proofs.audit_log.audit_from.Goals as goal
 
 -- the job that is lent
 abbrev job : Start → Job
-job e =
-    job_in e.args.job.now
+job e = job_in e.args.job.now
 
 few-nodes : (e : Start) → length e.args.job.now.block.kind.now ≤ 4096
 few-nodes e = kinds-few _ e.requires.0.block-sound.kinds_sound_lem

@@ -23,8 +23,7 @@ module _ (e : Start) where
   few-nets = e.requires.0.nets-few
 
   abbrev job : Job
-  job =
-      job_in e.args.job.now
+  job = job_in e.args.job.now
 
   -- what is lent is ready for a run that begins
   ready :

@@ -1,7 +1,7 @@
 -- `negotiation::congestion::over_count` meets its contract: after the turns up to v the nodes below v are counted.
 -- Assumes nothing.
 use mathlib.Core.Path.{◌≡◌}
-use Prim.Native.Nat.{ℕ, ◌-◌, ◌≤◌}
+use Prim.Native.Nat.{ℕ, ◌≤◌}
 use lib.Dec.{ltb}
 use lib.ListN.{length, get_or}
 use Rattle.price.specs.Lists.{count_below}

@@ -2,7 +2,6 @@
 -- Assumes nothing.
 use mathlib.Core.Bool.{false}
 use mathlib.Core.Path.{◌≡◌}
-use Prim.Native.Nat.{◌-◌}
 use lib.Seq.{slice}
 use Rattle.negotiation.specs.Steps.{some_over}
 use Rattle.job.proofs.MarkLaws.{Between}

@@ -1,6 +1,6 @@
 -- `negotiation::flood::flood_row` meets its contract. The invariant: the row is flooded up to place e.
 -- Assumes nothing.
-use Prim.Native.Nat.{◌-◌, ◌≤◌}
+use Prim.Native.Nat.{◌≤◌}
 use Rattle.search.specs.Block.{graph_of, row_start}
 use Rattle.negotiation.specs.Flood.{RowFlooded}
 use Rattle.negotiation.proofs.flood.flood_row.Given as goal

@@ -1,6 +1,6 @@
 -- `negotiation::flood::missing_sink` meets its contract: every sink that the loop has passed is marked.
 -- Assumes nothing.
-use Prim.Native.Nat.{ℕ, ◌-◌, ◌≤◌, ◌<◌}
+use Prim.Native.Nat.{ℕ, ◌≤◌, ◌<◌}
 use lib.ListN.{length, get_or}
 use Rattle.negotiation.proofs.flood.missing_sink.Given as goal
 

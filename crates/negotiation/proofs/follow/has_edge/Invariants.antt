@@ -1,6 +1,5 @@
 -- `negotiation::follow::has_edge` meets its contract. The invariant: the row that is left has the target or not, as the whole row.
 -- Assumes nothing.
-use Prim.Native.Nat.{◌-◌}
 use Rattle.search.specs.Block.{graph_of}
 use Rattle.negotiation.proofs.follow.PassLoopLaws.{RowLeft}
 use Rattle.negotiation.proofs.follow.has_edge.Given as goal

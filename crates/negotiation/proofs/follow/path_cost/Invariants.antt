@@ -1,6 +1,5 @@
 -- `negotiation::follow::path_cost` meets its contract. The invariant: the pass over the words that are left gives what the whole pass does.
 -- Assumes nothing.
-use Prim.Native.Nat.{◌-◌}
 use Rattle.search.specs.Block.{block_of}
 use Rattle.search.specs.Turn.{weighed_congestion}
 use Rattle.negotiation.proofs.follow.PassLoopLaws.{Passing}

@@ -1,6 +1,5 @@
 -- `join::gather_bytes` meets its contract. The loop's invariant: the entries at the places passed are gathered.
 -- Assumes nothing.
-use Prim.Native.Nat.{◌-◌}
 use Rattle.negotiation.proofs.join.JoinStepLaws.{Gathering}
 use Rattle.negotiation.proofs.join.gather_bytes.Given as goal
 

@@ -1,7 +1,5 @@
 -- `join::join_nets` meets its contract. The loop's invariant: the places of the nets passed stand first, and where each net's begin.
 -- Assumes nothing.
-use Prim.Native.Nat.{◌-◌}
-use lib.ListN.{length}
 use Rattle.negotiation.proofs.JoiningLaws.{Joining}
 use Rattle.negotiation.proofs.join.join_nets.Given as goal
 

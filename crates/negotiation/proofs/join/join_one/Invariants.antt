@@ -1,7 +1,5 @@
 -- `join::join_one` meets its contract. The loop's invariant: the places of the source's nets passed are taken.
 -- Assumes nothing.
-use Prim.Native.Nat.{◌-◌}
-use lib.ListN.{length}
 use Rattle.negotiation.proofs.JoiningLaws.{TakingNets}
 use Rattle.negotiation.proofs.join.join_one.Given as goal
 

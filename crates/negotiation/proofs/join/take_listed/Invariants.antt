@@ -1,6 +1,5 @@
 -- `join::take_listed` meets its contract. The loop's invariant: of every beginning the places passed are taken.
 -- Assumes nothing.
-use Prim.Native.Nat.{◌-◌}
 use Rattle.negotiation.proofs.join.JoinStepLaws.{Taking}
 use Rattle.negotiation.proofs.join.take_listed.Given as goal
 

@@ -1,8 +1,6 @@
 -- `negotiation::nets::begin_net` meets its contract: a net that is not due is left at once; of one that is due the old tree is ripped up.
 -- Assumes nothing.
 use mathlib.Core.Path.{refl}
-use Prim.Native.Nat.{◌+◌}
-use native.Mathlib.Omega.{arith}
 use Rattle.std.proofs.Common.{rules}
 use Rattle.negotiation.proofs.nets.begin_net.Goals as goal
 

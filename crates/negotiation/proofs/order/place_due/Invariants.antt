@@ -1,6 +1,6 @@
 -- `order::place_due` meets its contract. The loop's invariant: of the places passed the one found leads, or none is open.
 -- Assumes nothing.
-use Prim.Native.Nat.{◌-◌, ◌≤◌}
+use Prim.Native.Nat.{◌≤◌}
 use lib.ListN.{length}
 use Rattle.search.specs.Distance.{tree_has}
 use Rattle.negotiation.proofs.NextTriedLaws.{Leading}

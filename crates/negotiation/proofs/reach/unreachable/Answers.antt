@@ -9,7 +9,6 @@ use lib.Seq.{length-take-le}
 use borrow.Author.Count.{below_none}
 use Rattle.search.proofs.BlockLaws.{kinds-few}
 use Rattle.job.specs.Job.{Job, nodes}
-use Rattle.job.specs.Lent.{job_in}
 use Rattle.negotiation.specs.Routable.{Routable}
 use Rattle.negotiation.proofs.FloodLaws.{same_from_refl}
 use Rattle.negotiation.proofs.reach.TestedLaws.{Tested, flood_asked, sinks-asked, tested-found, tested-same, tested-more, tested-all}

@@ -1,7 +1,7 @@
 -- `negotiation::records::copy_path` meets its contract: after the turns up to k, k nodes are copied.
 -- Assumes nothing.
 use mathlib.Core.Path.{◌≡◌}
-use Prim.Native.Nat.{◌-◌, ◌≤◌}
+use Prim.Native.Nat.{◌≤◌}
 use lib.ListN.{length}
 use lib.Seq.{paste}
 use Rattle.negotiation.proofs.records.copy_path.Given as goal

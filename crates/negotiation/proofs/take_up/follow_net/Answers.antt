@@ -20,8 +20,8 @@ use Rattle.negotiation.proofs.take_up.follow_net.Goals as goal
 module _ (c : Else-turns-eq0) where
   -- the one that is asked for, and its work memory
   asked :
-      SomeNet (job_in c.args.job.now) c.args.job.now.delay.now c.args.job.now.criticality.now c.args.job.now.terms.timed c.args.from c.args.to c.args.net
-      c.args.turns c.args.begun c.args.history.now c.args.users.now c.args.in_tree.now c.args.log.now
+      SomeNet (job_in c.args.job.now) c.args.from c.args.to c.args.net c.args.turns c.args.begun c.args.history.now c.args.users.now c.args.in_tree.now
+      c.args.log.now
   asked = (c.requires (some_of c.args.turns c.if-turns-eq0.false)).0
 
   enough : 8 * length c.args.job.now.block.kind.now ≤ length c.args.work.now
@@ -75,7 +75,7 @@ returns-then-left-eq0 c =
     let inv = c.loop-place.invariant in
     record {
       value = λ z. absurd (c.if-turns-eq0.false z);
-      net_answered = λ p o. follow_out _ o (inv.0 _ o) inv.1 c.loop-place-test.true c.if-left-eq0.true;
+      net_answered = λ p o. follow_out c.args.job.now o (inv.0 _ o) inv.1 c.loop-place-test.true c.if-left-eq0.true;
       same_from = inv.4;
     }
 
@@ -84,7 +84,7 @@ follow_tried-requires c =
     let o = (asked (goal.at.follow_tried-requires c).Else-turns-eq0).opens in
     let room = enough (goal.at.follow_tried-requires c).Else-turns-eq0 in
     let same = c.loop-place.invariant.4.long in
-    record { begun = follow_some _ o (c.loop-place.invariant.0 _ o); ready = follow_ready _ o (c.loop-place.invariant.0 _ o) (omega arith) }
+    record { begun = follow_some c.args.job.now o (c.loop-place.invariant.0 _ o); ready = follow_ready c.args.job.now o (c.loop-place.invariant.0 _ o) (omega arith) }
 
 pub returns-in_err-count : goal.returns-in_err-count
 returns-in_err-count c =
@@ -94,7 +94,7 @@ returns-in_err-count c =
       value = λ z. absurd (c.if-turns-eq0.false z);
       net_answered = λ p o.
           rw (sent_on c.from_residual.result c.from_residual.ensures.1)
-          (follow_stopped _ o (inv.0 _ o) inv.1 c.loop-place-test.true c.if-left-eq0.false (small at.Else-turns-eq0) c.args.walk.over c.follow_tried.ensures.value
+          (follow_stopped c.args.job.now o (inv.0 _ o) inv.1 c.loop-place-test.true c.if-left-eq0.false (small at.Else-turns-eq0) c.args.walk.over c.follow_tried.ensures.value
           c.in_err-count.was (marks at.After-follow_tried));
       same_from = work-same at.After-follow_tried;
     }
@@ -105,7 +105,7 @@ turn_logged-tariff-requires c =
     let o = (asked (goal.at.turn_logged-tariff-requires c).Else-turns-eq0).opens in
     let short : length c.args.log.now < 2 ^ 64 = omega (arith, c.well_formed) in
     let room =
-    follow_room _ o (inv.0 _ o) inv.1 c.loop-place-test.true c.if-left-eq0.false (small (goal.at.turn_logged-tariff-requires c).Else-turns-eq0) c.args.walk.over c.follow_tried.ensures.value c.in_ok-count.was short in
+    follow_room c.args.job.now o (inv.0 _ o) inv.1 c.loop-place-test.true c.if-left-eq0.false (small (goal.at.turn_logged-tariff-requires c).Else-turns-eq0) c.args.walk.over c.follow_tried.ensures.value c.in_ok-count.was short in
     (room.0, room.1, omega (arith, inv.3, c.well_formed))
 
 pub slice_bounds-missing_sink-count-in-loop-place : goal.slice_bounds-missing_sink-count-in-loop-place
@@ -131,7 +131,7 @@ pub loop-place-preserved : goal.loop-place-preserved
 loop-place-preserved c =
     let inv = c.loop-place.invariant in (
       (λ p o.
-          follow_more _ o (inv.0 _ o) inv.1 c.loop-place-test.true c.if-left-eq0.false (small (goal.at.loop-place-preserved c).Else-turns-eq0) c.args.walk.over c.follow_tried.ensures.value
+          follow_more c.args.job.now o (inv.0 _ o) inv.1 c.loop-place-test.true c.if-left-eq0.false (small (goal.at.loop-place-preserved c).Else-turns-eq0) c.args.walk.over c.follow_tried.ensures.value
           c.in_ok-count.was (c.follow_tried.ensures.stored _ c.in_ok-count.was) c.turn_logged-tariff.ensures),
       missing-more inv.1 (c.follow_tried.ensures.stored _ c.in_ok-count.was) c.missing_sink-place-in-loop-place.ensures,
       marks_long (goal.at.loop-place-preserved c).After-follow_tried,
@@ -144,6 +144,6 @@ returns c =
     let inv = c.loop-place.invariant in
     record {
       value = λ z. absurd (c.if-turns-eq0.false z);
-      net_answered = λ p o. follow_on _ o (inv.0 _ o) inv.1 c.loop-place-test.false;
+      net_answered = λ p o. follow_on c.args.job.now o (inv.0 _ o) inv.1 c.loop-place-test.false;
       same_from = inv.4;
     }

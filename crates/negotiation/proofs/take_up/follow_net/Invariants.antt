@@ -2,7 +2,7 @@
 -- that of the first sink that the tree lacks (`TakeTurnLaws`). What is safe rests on the one that is asked for. A net without turns leaves all as it is.
 -- Assumes nothing.
 use mathlib.Core.Path.{◌≡◌}
-use Prim.Native.Nat.{ℕ, ◌-◌, ◌*◌}
+use Prim.Native.Nat.{◌-◌, ◌*◌}
 use lib.ListN.{length, take, drop}
 use Rattle.job.specs.Lent.{job_in}
 use Rattle.negotiation.specs.Machine.{Progress}
@@ -14,9 +14,7 @@ use Rattle.negotiation.proofs.take_up.follow_net.Given as goal
 
 abbrev pub invariant-loop-place : goal.invariant-loop-place
 invariant-loop-place l =
-    ((p : Progress)
-    → NetOpens (job_in l.job) p l.net l.job.delay.now l.job.criticality.now l.job.terms.timed l.from l.to l.turns l.initial.tariff l.history l.users
-    l.initial.in_tree l.log
+    ((p : Progress) → NetOpens (job_in l.job) p l.net l.from l.to l.turns l.initial.tariff l.history l.users l.initial.in_tree l.log
     → Following l.walk.audit (job_in l.job) p l.net l.left l.tariff l.in_tree l.log)
     × FirstUnmarked l.in_tree (take (l.to - l.from) (drop l.from l.job.sink.now)) 0 l.place
     × (length l.in_tree ≡ length l.initial.in_tree)

@@ -1,7 +1,7 @@
--- `negotiation::take_up::follow_nets` meets its contract: under any such terms and from any progress at which an iteration opens so, the nets passed follow
--- (`TakeNetLaws`). What is safe rests on the one that is asked for. The measure: nets left.
+-- `negotiation::take_up::follow_nets` meets its contract: from any progress at which an iteration opens so, the nets passed follow (`TakeNetLaws`). What is
+-- safe rests on the one that is asked for.
 -- Assumes nothing.
-use mathlib.Core.Path.{◌≡◌, refl}
+use mathlib.Core.Path.{refl}
 use Prim.Native.Nat.{ℕ, ◌+◌, ◌*◌}
 use native.Mathlib.Omega.{arith}
 use lib.ListN.{length, get_or}
@@ -9,18 +9,19 @@ use Rattle.job.specs.Job.{Job}
 use Rattle.job.specs.Lent.{job_in}
 use Rattle.negotiation.specs.Routable.{Routable}
 use Rattle.negotiation.specs.Steps.{SameFrom}
-use Rattle.negotiation.specs.TakeSteps.{NetTables, NetsOpen, NetsOn}
+use Rattle.negotiation.specs.TakeSteps.{NetPlaces, NetsOpen, NetsOn}
 use Rattle.negotiation.proofs.KeepTurn.{same_twice}
 use Rattle.negotiation.proofs.take_up.JudgedLaws.{sent_on}
-use Rattle.negotiation.proofs.take_up.TakeNetLaws.{net_tables, nets-start, net-ready, net_asks, nets-stopped, end-ready, net-next, nets-all}
+use Rattle.negotiation.proofs.take_up.TakeNetLaws.{nets-start, net-ready, net_asks, nets-stopped, end-ready, net-next, nets-all}
 use Rattle.negotiation.proofs.take_up.follow_nets.Goals.{After-follow_net, At-loop-net}
 use Rattle.negotiation.proofs.take_up.follow_nets.Goals as goal
 
 module _ (c : At-loop-net) where
-  -- the progress that is asked for
+  -- the job in the tables that are lent
   abbrev job : Job
   job = job_in c.args.job.now
 
+  -- the progress that is asked for
   opened :
       NetsOpen job c.requires.0.progress c.args.begun c.args.history.now c.args.users.now c.args.in_tree.now c.args.tree_from.now
       c.args.tree_to.now c.args.due.now c.args.log.now
@@ -29,12 +30,9 @@ module _ (c : At-loop-net) where
   routable : Routable job
   routable = opened.routable
 
-  -- the tables of a net
-  tables :
-      (i : ℕ)
-      → NetTables job i c.args.job.now.delay.now c.args.job.now.criticality.now c.args.job.now.terms.timed (get_or c.args.job.now.first_sink.now i 0)
-      (get_or c.args.job.now.first_sink.now (i + 1) 0)
-  tables i = net_tables _ _ _ _ _ _ _ _ _ c.args.job.now.terms i refl
+  -- where a net's sinks stand
+  places : (i : ℕ) → NetPlaces job i (get_or c.args.job.now.first_sink.now i 0) (get_or c.args.job.now.first_sink.now (i + 1) 0)
+  places i = record { from_is = refl; to_is = refl }
 
   -- the nets so far, of what is asked for
   so_far :
@@ -72,7 +70,7 @@ follow_net-requires c =
         progress = (so_far (goal.at.follow_net-requires c).At-loop-net).progress;
         opens =
             net_asks _ o.routable o.due-is (so_far (goal.at.follow_net-requires c).At-loop-net) c.loop-net-test.true c.begin_net-turns.ensures.idle c.begin_net-turns.ensures.begun
-            (tables (goal.at.follow_net-requires c).At-loop-net _) some;
+            (places (goal.at.follow_net-requires c).At-loop-net _) some;
       },
       omega arith,
     )
@@ -83,7 +81,7 @@ returns-in_err-tariff c = record {
   nets_answered = λ p o.
       rw (sent_on c.from_residual.result c.from_residual.ensures.1)
       (nets-stopped _ o.routable o.due-is (c.loop-net.invariant.0 _ o) c.loop-net-test.true c.begin_net-turns.ensures.idle c.begin_net-turns.ensures.begun
-      (tables (goal.at.returns-in_err-tariff c).At-loop-net _) c.args.walk.over c.follow_net.ensures.value (λ q. c.follow_net.ensures.net_answered _ q)
+      (places (goal.at.returns-in_err-tariff c).At-loop-net _) c.args.walk.over c.follow_net.ensures.value (λ q. c.follow_net.ensures.net_answered _ q)
       c.in_err-tariff.was _ _ _ _ _);
 }
 
@@ -91,7 +89,7 @@ pub end_net-requires : goal.end_net-requires
 end_net-requires c =
     let o = opened (goal.at.end_net-requires c).At-loop-net in
     end-ready _ o.routable o.due-is (so_far (goal.at.end_net-requires c).At-loop-net) c.loop-net-test.true c.begin_net-turns.ensures.idle c.begin_net-turns.ensures.begun
-    (tables (goal.at.end_net-requires c).At-loop-net _) c.args.walk.over c.follow_net.ensures.value
+    (places (goal.at.end_net-requires c).At-loop-net _) c.args.walk.over c.follow_net.ensures.value
     (λ q. c.follow_net.ensures.net_answered _ q) c.in_ok-tariff.was
 
 pub loop-net-preserved : goal.loop-net-preserved
@@ -99,7 +97,7 @@ loop-net-preserved c =
     let few = c.loop-net-test.true in (
       (λ p o.
           net-next _ o.routable o.due-is (c.loop-net.invariant.0 _ o) c.loop-net-test.true c.begin_net-turns.ensures.idle c.begin_net-turns.ensures.begun
-          (tables (goal.at.loop-net-preserved c).At-loop-net _) c.args.walk.over c.follow_net.ensures.value
+          (places (goal.at.loop-net-preserved c).At-loop-net _) c.args.walk.over c.follow_net.ensures.value
           (λ q. c.follow_net.ensures.net_answered _ q) c.in_ok-tariff.was
           c.end_net.ensures.passed c.end_net.ensures.ended),
       omega arith,

@@ -1,7 +1,6 @@
 -- `negotiation::take_up::set_goals` meets its contract. The loop's invariant: the entries at the sinks passed are 1, the others are as before.
 -- Assumes nothing.
-use Prim.Native.Nat.{◌-◌}
-use lib.ListN.{length, take}
+use lib.ListN.{take}
 use Rattle.job.specs.Steps.{Stored}
 use Rattle.negotiation.proofs.take_up.set_goals.Given as goal
 

@@ -1,6 +1,5 @@
 -- `negotiation::trees::add_path` meets its contract: after the turns up to k, the marks of the nodes at places below k are cleared, and those that were set have one user more.
 -- Assumes nothing.
-use Prim.Native.Nat.{◌-◌}
 use lib.ListN.{length}
 use lib.Seq.{slice}
 use Rattle.negotiation.specs.Steps.{UsersAdded}

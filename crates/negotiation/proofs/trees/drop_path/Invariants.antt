@@ -1,6 +1,5 @@
 -- `negotiation::trees::drop_path` meets its contract: after the turns up to k, the nodes at places below k are marked, and those that were not have one user less.
 -- Assumes nothing.
-use Prim.Native.Nat.{◌-◌}
 use lib.ListN.{length}
 use lib.Seq.{slice}
 use Rattle.negotiation.specs.Steps.{Dropped}

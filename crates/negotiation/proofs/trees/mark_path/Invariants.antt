@@ -1,6 +1,5 @@
 -- `negotiation::trees::mark_path` meets its contract: after the turns up to k, the nodes at places below k are marked.
 -- Assumes nothing.
-use Prim.Native.Nat.{◌-◌}
 use lib.Seq.{slice}
 use Rattle.job.specs.Steps.{Stored}
 use Rattle.job.proofs.MarkLaws.{Between}

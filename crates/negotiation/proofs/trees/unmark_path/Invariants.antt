@@ -1,6 +1,5 @@
 -- `negotiation::trees::unmark_path` meets its contract: after the turns up to k, the marks of the nodes at places below k are cleared.
 -- Assumes nothing.
-use Prim.Native.Nat.{◌-◌}
 use lib.Seq.{slice}
 use Rattle.job.specs.Steps.{Stored}
 use Rattle.job.proofs.MarkLaws.{Between}

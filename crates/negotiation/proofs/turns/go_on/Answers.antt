@@ -214,8 +214,7 @@ loop-preserved c =
     let done = c.net_turn.ensures in
     let one_less : c.begin_net-most.result - (c.loop.counter + 1) ≡ c.begin_net-most.result - c.loop.counter - 1 = omega arith in
     λ p W L m e o.
-    let inv = c.loop.invariant p W L m e o in
-    (
+    let inv = c.loop.invariant p W L m e o in (
       rw one_less (after_turn _ sound e inv.0 left (tables at) _ _ _ done.same_from _ done.answers _ c.in-Ok.is _ c.unwrap_or-tariff.ensures),
       λ k aimed ran h.
           counts_turn _ sound reachable e inv.0 left (tables at) _ _ _ done.same_from _ done.answers _ c.in-Ok.is _ c.unwrap_or-tariff.ensures k aimed ran
