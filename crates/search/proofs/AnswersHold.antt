@@ -1,7 +1,7 @@
 -- What the answers are in terms of paths alone: a search that isn't refused leaves least costs, and a turn joins by a cheapest path or has none.
 -- It follows from what the replies are, whatever the code does.
 -- Assumes nothing.
-use mathlib.Core.Bool.{true, false, true≢false}
+use mathlib.Core.Bool.{true, false}
 use mathlib.Core.List.{List, [], ◌∷◌, ◌++◌}
 use mathlib.Core.Path.{◌≡◌, refl, sym, ◌∙◌, ap}
 use Prim.Native.Nat.{ℕ, zero, suc, ◌*◌, ◌-◌, ◌<◌}
