@@ -2,6 +2,7 @@
 -- Assumes nothing.
 use mathlib.Core.Path.{◌∙◌, sym}
 use lib.Seq.{length-take-le}
+use Rattle.std.proofs.Common.{Ok, Err}
 use Rattle.std.proofs.lemmas.Result.{err_from_is_err_and}
 use Rattle.job.specs.Lent.{job_in}
 use Rattle.flow.proofs.RunLaws.{words_fit, run_accepted, run_refused, write_refused}
@@ -31,7 +32,7 @@ returns-in_err-write_style-in-None c =
     let p = err_from_is_err_and c.from_residual.result c.from_residual.ensures.1 in
     rw p.1
     (run_accepted (job_in a.job.now) a.work.now a.log.now r.result r.new.work r.new.log r.ensures.demand.as_negotiated
-    a.style a.routes.now _ c.write_style.new.buffer c.in-None.ensures
+    a.style a.routes.now (Err p.0) c.write_style.new.buffer c.in-None.ensures
     (write_refused p.0 p.2 c.write_style.new.buffer ∙ c.in_err-write_style-in-None.ensures.answers))
 
 pub returns-in_ok-write_style-in-None : goal.returns-in_ok-write_style-in-None
@@ -39,4 +40,4 @@ returns-in_ok-write_style-in-None c =
     let a = c.args in
     let r = c.route-r in
     run_accepted (job_in a.job.now) a.work.now a.log.now r.result r.new.work r.new.log r.ensures.demand.as_negotiated
-    a.style a.routes.now _ c.write_style.new.buffer c.in-None.ensures c.in_ok-write_style-in-None.ensures.answers
+    a.style a.routes.now (Ok c.in_ok-write_style-in-None.field-0) c.write_style.new.buffer c.in-None.ensures c.in_ok-write_style-in-None.ensures.answers
