@@ -14,9 +14,9 @@ pub first_found : (sources : List ℕ) (net node i : ℕ) → node ≡ get_or so
 unfolding first_of
 first_found sources net node i e h here none = rw (← e) (place_of-is node sources i h here none)
 
-pub first_none : (sources : List ℕ) (net node i : ℕ) → node ≡ get_or sources net 0 → i ≡ length sources → ((k : ℕ) → k < i → get_or sources k 0 ≡ node → ⊥) → first_of sources net ≡ i
+pub first_none : (sources : List ℕ) (net node i : ℕ) → node ≡ get_or sources net 0 → i ≡ length sources → ((k : ℕ) → k < i → get_or sources k 0 ≡ node → ⊥) → first_of sources net ≡ length sources
 unfolding first_of
-first_none sources net node i e long none = rw (← e, long) (place_of-none node sources (rw long at none))
+first_none sources net node i e long none = rw (← e) (place_of-none node sources (rw long at none))
 
 module _ (sources : List ℕ) (k : ℕ) (h : k < length sources) where
   pub first_below_lem : first_of sources k < length sources

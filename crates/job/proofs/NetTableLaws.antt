@@ -1,11 +1,9 @@
 -- How a pass over tables 5 to 10 decides their rules: by the entry that breaks one, or by every entry passed.
---     sources-, stays_at, always_rises, firsts-     tables 5 and 6
+--     sources-all, stays_at, always_rises, firsts-    tables 5 and 6
 --     net-answer, Passing, passing-, nets-            table 7
---     kind-, pin_bad, pins_all                      the pins' kinds
---     criticalities-, times-                        tables 9 and 10
---     exceeds-                                      the bounds of a timed job
---     faulty-, block-                               the lowest faulty table
---     named                                         tables 1 to 4 and 9, by what the cheapest path refuses
+--     times_                                          tables 9 and 10
+--     block-, nets_refused, times_last                the lowest faulty table of all
+--     named                                           tables 1 to 4 and 9, by what the cheapest path refuses
 -- Assumes nothing.
 use mathlib.Core.Bool.{Bool, true, false}
 use mathlib.Core.List.{List, [], ◌∷◌}
@@ -18,45 +16,34 @@ use lib.Dec.{leb, ltb, eqb}
 use lib.ListN.{length, get_or, take, drop, replicate, length-replicate}
 use borrow.Author.Count.{below_none, below_more}
 use borrow.Author.Tests.{le-leb, lt-leb, lt-ltb, le-ltb, eq-eqb, ne_eqb}
+use Rattle.std.specs.Prelude.{Option, Result, Ok, Err}
+use Rattle.std.specs.Result.{is_ok}
 use Rattle.price.specs.Test.{choose, both}
-use Rattle.price.specs.Bounds.{nodes_most, limit_most, factor_most, criticality_most, timed_nodes_most, timed_limit_most}
-use Rattle.price.specs.Tuning.{tuning_sound}
+use Rattle.price.specs.Bounds.{nodes_most, factor_most}
 use Rattle.price.specs.Timed.{untimed}
 use Rattle.price.specs.declared.Weighting.{Weighting}
 use Rattle.price.specs.Lists.{every, neighbours, up_to}
-use Rattle.price.proofs.TestLaws.{by_test, le_or_lt, both_true, both_false_right}
+use Rattle.price.proofs.TestLaws.{by_test, le_or_lt, both_true, both_false_right, true≢false}
 use Rattle.price.proofs.ListLaws.{every-all, every-none, neighbours-all, neighbours-none, length_up_to, get_or_up_to, part_slice}
 use Rattle.search.specs.Block.{Block}
 use Rattle.search.specs.Block as block
+use Rattle.search.specs.Lent.{tested}
 use Rattle.search.specs.Tables.{faulty_table, delays_sound}
 use Rattle.search.specs.Turn.{Congestion, weighed_congestion}
 use Rattle.search.specs.Replies.{work_needed, bad_node, too_many, bad_criticality, refusal_of, sinks_most, faulty_with_delays, faulty_with_sinks, fitting, path_reply_of, path_reply}
 use Rattle.search.proofs.PriceableLaws.{fitted}
 use Rattle.search.specs.Replies as search
-use Rattle.search.specs.declared.PathAnswer.{PathAnswer}
+use Rattle.search.specs.declared.BadTable as bad
+use Rattle.search.specs.declared.Joins.{Joins}
+use Rattle.search.specs.declared.Refusal.{Refusal}
+use Rattle.search.specs.declared.Refusal.TheVariants.{BadTable, ShortWork, BadNumber, TooLarge}
 use Rattle.search.proofs.BlockLaws.{sound_of, kinds-few}
 use Rattle.job.specs.Job.{Job, nodes, sinks_between, if_timed}
-use Rattle.job.specs.Tables.{nets_most, sources_sound, first_sinks_sound, net_sound, sinks_sound, limit_sound, until_most, rule_sound, terms_sound, one_of, pins_of, source_pins, sink_pins, faulty_nets, criticalities_sound, faulty_times, faulty_untimed, faulty_job, exceeds}
+use Rattle.job.specs.Tables.{nets_most, sources_sound, first_sinks_sound, net_sound, sinks_sound, faulty_nets, criticalities_sound, faulty_times, faulty_untimed, faulty_job}
 use Rattle.job.specs.declared.Terms.{Terms}
 use Rattle.job.proofs.SinkMarkLaws.{Unmarked, unmarked_new}
 
 -- ---- table 5
-
-pub sources-none : (n : ℕ) (ss : List ℕ) → length ss < 1 → sources_sound n ss ≡ false
-unfolding sources_sound
-sources-none n ss h = rw (lt-leb 1 (length ss) h)
-
-pub sources_many : (n : ℕ) (ss : List ℕ) → nets_most < length ss → sources_sound n ss ≡ false
-unfolding sources_sound
-sources_many n ss h =
-    let some : leb 1 (length ss) ≡ true = le-leb 1 (length ss) (omega arith) in
-    rw (some, lt-leb (length ss) nets_most h)
-
-pub sources_bad : (n : ℕ) (ss : List ℕ) (i : ℕ) → i < length ss → n ≤ get_or ss i 0 → sources_sound n ss ≡ false
-unfolding sources_sound
-sources_bad n ss i h l =
-    both_false_right (both (leb 1 (length ss)) (leb (length ss) nets_most)) (every (λ s. ltb s n) ss)
-    (every-none (λ s. ltb s n) ss i h (le-ltb (get_or ss i 0) n l))
 
 pub sources-all : (n : ℕ) (ss : List ℕ) (i : ℕ) → 1 ≤ length ss → length ss ≤ nets_most → length ss ≤ i → ((k : ℕ) → k < i → get_or ss k 0 < n) → sources_sound n ss ≡ true
 unfolding sources_sound
@@ -75,18 +62,6 @@ always_rises fs v end all =
     neighbours-all ltb fs (λ i l. lt-ltb (get_or fs i 0) (get_or fs (suc i) 0) (simp unary_clauses at (all (suc i) (omega arith) (omega arith))))
 
 module _ (n places : ℕ) (fs : List ℕ) where
-  pub firsts-length : (length fs ≡ n + 1 → ⊥) → first_sinks_sound n places fs ≡ false
-  unfolding first_sinks_sound
-  firsts-length h = rw (ne_eqb (length fs) (n + 1) h)
-
-  pub firsts_begin : length fs ≡ n + 1 → (get_or fs 0 0 ≡ 0 → ⊥) → first_sinks_sound n places fs ≡ false
-  unfolding first_sinks_sound
-  firsts_begin long h = rw (eq-eqb (length fs) (n + 1) long, ne_eqb (get_or fs 0 0) 0 h)
-
-  pub firsts-stay : length fs ≡ n + 1 → get_or fs 0 0 ≡ 0 → neighbours ltb fs ≡ false → first_sinks_sound n places fs ≡ false
-  unfolding first_sinks_sound
-  firsts-stay long first h = rw (eq-eqb (length fs) (n + 1) long, eq-eqb (get_or fs 0 0) 0 first, h)
-
   -- all but the last entry
   pub firsts-last : length fs ≡ n + 1 → get_or fs 0 0 ≡ 0 → neighbours ltb fs ≡ true → first_sinks_sound n places fs ≡ eqb (get_or fs n 0) places
   unfolding first_sinks_sound
@@ -95,10 +70,6 @@ module _ (n places : ℕ) (fs : List ℕ) where
 -- ---- table 7
 
 module _ (n : ℕ) (ss fs ts : List ℕ) where
-  pub nets_many : sinks_most < length ts → sinks_sound n ss fs ts ≡ false
-  unfolding sinks_sound
-  nets_many h = rw (lt-leb (length ts) sinks_most h)
-
   pub nets_bad : (i : ℕ) → i < length ss → net_sound n (get_or ss i 0) (sinks_between fs ts i) ≡ false → sinks_sound n ss fs ts ≡ false
   unfolding sinks_sound
   nets_bad i h bad =
@@ -136,114 +107,17 @@ pub passing-more :
 passing-more i p here none long =
     record { sound = below_more _ i p.sound here; unmarked = none; long = long ∙ p.long }
 
--- ---- the pins' kinds
+-- ---- a test of tables as a result
 
-module _ (a b kind : ℕ) where
-  pub kind_first : kind ≡ a → true ≡ one_of a b kind
-  unfolding one_of
-  kind_first e = rw (eq-eqb kind a e)
+-- the first of two is refused
+first_refused : {refused : bad.BadTable} (a b : ℕ) → Err refused ≡ tested a → Err refused ≡ tested (choose (leb 1 a) a b)
+first_refused zero b e = absurd (true≢false (sym (ap is_ok e)))
+first_refused (suc k) b e = rw (le-leb 1 (suc k) (omega arith)) e
 
-  pub kind_second : (kind ≡ a → ⊥) → eqb kind b ≡ one_of a b kind
-  unfolding one_of
-  kind_second n = rw (ne_eqb kind a n)
-
-module _ (test : ℕ → Bool) (kinds ps : List ℕ) where
-  pub pin_bad : (i : ℕ) → i < length ps → test (get_or kinds (get_or ps i 0) 0) ≡ false → pins_of test kinds ps ≡ false
-  unfolding pins_of
-  pin_bad i h bad = every-none (λ v. test (get_or kinds v 0)) ps i h bad
-
-  pub pins_all : (i : ℕ) → length ps ≤ i → ((k : ℕ) → k < i → test (get_or kinds (get_or ps k 0) 0) ≡ true) → pins_of test kinds ps ≡ true
-  unfolding pins_of
-  pins_all i end all = every-all (λ v. test (get_or kinds v 0)) ps (λ k l. all k (omega arith))
-
--- ---- table 8 and the lowest of tables 5 to 8
-
-module _ (rule until : ℕ) where
-  pub until_low : until < 1 → rule_sound rule until ≡ false
-  unfolding rule_sound
-  until_low h = rw (lt-leb 1 until h)
-
-  pub until_high : 1 ≤ until → until_most < until → rule_sound rule until ≡ false
-  unfolding rule_sound
-  until_high some h = rw (le-leb 1 until some, lt-leb until until_most h)
-
-  pub rule_first : 1 ≤ until → until ≤ until_most → rule ≡ 1 → rule_sound rule until ≡ true
-  unfolding rule_sound one_of
-  rule_first some few e = rw (le-leb 1 until some, le-leb until until_most few, eq-eqb rule 1 e)
-
-  pub rule_second : 1 ≤ until → until ≤ until_most → (rule ≡ 1 → ⊥) → rule_sound rule until ≡ eqb rule 2
-  unfolding rule_sound one_of
-  rule_second some few n = rw (le-leb 1 until some, le-leb until until_most few, ne_eqb rule 1 n)
-
-module _ (t : Terms) where
-  pub terms-low : t.limit < 1 → terms_sound t ≡ false
-  unfolding terms_sound limit_sound
-  terms-low h = rw (lt-leb 1 t.limit h)
-
-  pub terms-high : 1 ≤ t.limit → limit_most < t.limit → terms_sound t ≡ false
-  unfolding terms_sound limit_sound
-  terms-high some h = rw (le-leb 1 t.limit some, lt-leb t.limit limit_most h)
-
-  pub terms-tuning : 1 ≤ t.limit → t.limit ≤ limit_most → tuning_sound t.tuning ≡ false → terms_sound t ≡ false
-  unfolding terms_sound limit_sound
-  terms-tuning some few bad = rw (le-leb 1 t.limit some, le-leb t.limit limit_most few, bad)
-
-  pub terms-rule : 1 ≤ t.limit → t.limit ≤ limit_most → tuning_sound t.tuning ≡ true → terms_sound t ≡ rule_sound t.rule t.until
-  unfolding terms_sound limit_sound
-  terms-rule some few fits = rw (le-leb 1 t.limit some, le-leb t.limit limit_most few, fits)
-
-module _ (kinds ss fs ts : List ℕ) (terms : Terms) where
-  pub faulty_5 : sources_sound (length kinds) ss ≡ false → faulty_nets kinds ss fs ts terms ≡ 5
-  unfolding faulty_nets
-  faulty_5 p = rw p
-
-  module _ (p : sources_sound (length kinds) ss ≡ true) where
-    pub faulty_source : source_pins kinds ss ≡ false → faulty_nets kinds ss fs ts terms ≡ 5
-    unfolding faulty_nets
-    faulty_source u = rw (p, u)
-
-    module _ (u : source_pins kinds ss ≡ true) where
-      pub faulty_6 : first_sinks_sound (length ss) (length ts) fs ≡ false → faulty_nets kinds ss fs ts terms ≡ 6
-      unfolding faulty_nets
-      faulty_6 q = rw (p, u, q)
-
-      module _ (q : first_sinks_sound (length ss) (length ts) fs ≡ true) where
-        pub faulty_7 : sinks_sound (length kinds) ss fs ts ≡ false → faulty_nets kinds ss fs ts terms ≡ 7
-        unfolding faulty_nets
-        faulty_7 r = rw (p, u, q, r)
-
-        module _ (r : sinks_sound (length kinds) ss fs ts ≡ true) where
-          pub faulty_sink : sink_pins kinds ts ≡ false → faulty_nets kinds ss fs ts terms ≡ 7
-          unfolding faulty_nets
-          faulty_sink v = rw (p, u, q, r, v)
-
-          module _ (v : sink_pins kinds ts ≡ true) where
-            pub faulty_8 : terms_sound terms ≡ false → faulty_nets kinds ss fs ts terms ≡ 8
-            unfolding faulty_nets
-            faulty_8 e = rw (p, u, q, r, v, e)
-
-            pub faulty_no_net : terms_sound terms ≡ true → faulty_nets kinds ss fs ts terms ≡ 0
-            unfolding faulty_nets
-            faulty_no_net e = rw (p, u, q, r, v, e)
+first_passed : {r : Result (Unit {0}) bad.BadTable} (a b : ℕ) → a ≡ 0 → r ≡ tested b → r ≡ tested (choose (leb 1 a) a b)
+first_passed a b none e = rw none e
 
 -- ---- tables 9 and 10
-
-module _ (m : ℕ) (cs : List ℕ) where
-  pub criticalities-length : (length cs ≡ m → ⊥) → criticalities_sound m cs ≡ false
-  unfolding criticalities_sound
-  criticalities-length h = rw (ne_eqb (length cs) m h)
-
-  pub criticalities_bad : (i : ℕ) → i < length cs → criticality_most < get_or cs i 0 → criticalities_sound m cs ≡ false
-  unfolding criticalities_sound
-  criticalities_bad i h l =
-      both_false_right (eqb (length cs) m) (every (λ c. leb c criticality_most) cs)
-      (every-none (λ c. leb c criticality_most) cs i h (lt-leb (get_or cs i 0) criticality_most l))
-
-  pub criticalities-all : (i : ℕ) → length cs ≡ m → length cs ≤ i → ((k : ℕ) → k < i → get_or cs k 0 ≤ criticality_most) → criticalities_sound m cs ≡ true
-  unfolding criticalities_sound
-  criticalities-all i long end all =
-      both_true (eq-eqb (length cs) m long)
-      (every-all (λ c. leb c criticality_most) cs (λ k l. le-leb (get_or cs k 0) criticality_most (all k (omega arith))))
 
 -- an untimed job has none of what is lent
 times_lent : (t : Terms) (n m : ℕ) (ds cs : List ℕ) → faulty_times t n m (if_timed t ds) (if_timed t cs) ≡ faulty_times t n m ds cs
@@ -251,152 +125,124 @@ unfolding faulty_times
 times_lent t n m ds cs =
     by_test t.timed (λ q. rw q) (λ q. rw q)
 
-pub times_untimed : (t : Terms) (n m : ℕ) (ds cs : List ℕ) → t.timed ≡ false → faulty_times t n m ds cs ≡ 0
-unfolding faulty_times
-times_untimed t n m ds cs u = rw u
-
 -- the tests one after the other, where the block is sound
-module _ (b : Block) (t : Terms) (m : ℕ) (ds cs : List ℕ) {delays : ℕ} (timed : t.timed ≡ true) (sound : faulty_table b ≡ 0)
-    (e : delays ≡ faulty_with_delays b (weighed_congestion (record { timed = true; criticality = 0 }) ds 0 [] [])) where
-  by_delays : delays ≡ choose (delays_sound (block.nodes b) ds) 0 9
+module _ (b : Block) (t : Terms) (m : ℕ) (ds cs : List ℕ) (timed : t.timed ≡ true) (sound : faulty_table b ≡ 0) where
+  abbrev by_delays : ℕ
+  by_delays = faulty_with_delays b (weighed_congestion (record { timed = true; criticality = 0 }) ds 0 [] [])
+
+  by_sound : (kept : Bool) → delays_sound (block.nodes b) ds ≡ kept → by_delays ≡ choose kept 0 9
   unfolding faulty_with_delays
-  by_delays =
-      e
-      ∙ rw sound
-      (by_test (delays_sound (block.nodes b) ds)
-      (λ q. rw q)
-      (λ q. rw q))
+  by_sound true q = rw (sound, q)
+  by_sound false q = rw (sound, q)
 
-  pub times_9 : 1 ≤ delays → faulty_times t (block.nodes b) m ds cs ≡ delays
+  pub times_9 : {refused : bad.BadTable} → Err refused ≡ tested by_delays → Err refused ≡ tested (faulty_times t (block.nodes b) m ds cs)
   unfolding faulty_times
-  times_9 h =
+  times_9 e =
       by_test (delays_sound (block.nodes b) ds)
-      (λ q. absurd (let none : delays ≡ 0 = by_delays ∙ rw q in omega arith))
-      (λ q. rw (timed, q) (sym (by_delays ∙ rw q)))
+      (λ q. absurd (true≢false (sym (ap is_ok (e ∙ ap tested (by_sound true q))))))
+      (λ q. rw (timed, q) (e ∙ ap tested (by_sound false q)))
 
-  module _ (h : delays < 1) where
-    delays-kept : delays_sound (block.nodes b) ds ≡ true
-    delays-kept =
-        by_test (delays_sound (block.nodes b) ds)
-        (λ q. q)
-        (λ q. absurd (let nine : delays ≡ 9 = by_delays ∙ rw q in omega arith))
-
-    pub times_10 : criticalities_sound m cs ≡ false → faulty_times t (block.nodes b) m ds cs ≡ 10
-    unfolding faulty_times
-    times_10 bad = rw (timed, delays-kept, bad)
-
-    pub times_kept : criticalities_sound m cs ≡ true → faulty_times t (block.nodes b) m ds cs ≡ 0
-    unfolding faulty_times
-    times_kept kept = rw (timed, delays-kept, kept)
-
--- ---- the bounds of a timed job
-
-module _ (n : ℕ) (t : Terms) where
-  pub exceeds-untimed : t.timed ≡ false → exceeds n t ≡ false
-  unfolding exceeds
-  exceeds-untimed u = rw u
-
-  pub exceeds-nodes : t.timed ≡ true → timed_nodes_most < n → exceeds n t ≡ true
-  unfolding exceeds
-  exceeds-nodes timed h = rw (timed, lt-ltb timed_nodes_most n h)
-
-  pub exceeds_limit : t.timed ≡ true → n ≤ timed_nodes_most → exceeds n t ≡ ltb timed_limit_most t.limit
-  unfolding exceeds
-  exceeds_limit timed h = rw (timed, le-ltb timed_nodes_most n h)
+  pub times_10 : (kept : Bool) → Ok tt ≡ tested by_delays → criticalities_sound m cs ≡ kept → tested (choose kept 0 10) ≡ tested (faulty_times t (block.nodes b) m ds cs)
+  unfolding faulty_times
+  times_10 kept e c =
+      by_test (delays_sound (block.nodes b) ds)
+      (λ q. rw (timed, q, c))
+      (λ q. absurd (true≢false (ap is_ok (e ∙ ap tested (by_sound false q)))))
 
 -- ---- the lowest of all tables
 
-module _ {table : ℕ} (j : Job) (e : table ≡ faulty_table j.block) where
-  pub faulty_by_block : 1 ≤ table → faulty_job j ≡ table
+pub block-few : (b : Block) → faulty_table b ≡ 0 → block.nodes b ≤ nodes_most
+block-few b none = kinds-few b.kinds (sound_of b none).kinds_sound_lem
+
+-- the parts of a job one after the other
+module _ (j : Job) where
+  pub block_refused : {refused : bad.BadTable} → Err refused ≡ tested (faulty_table j.block) → Err refused ≡ tested (faulty_job j)
   unfolding faulty_job faulty_untimed
-  faulty_by_block h = rw (← e, le-leb 1 table h, le-leb 1 table h)
+  block_refused e = first_refused _ _ (first_refused _ _ e)
 
-  module _ (h : table < 1) where
-    pub block_none : faulty_table j.block ≡ 0
-    block_none = omega arith
+  module _ (sound : faulty_table j.block ≡ 0) where
+    abbrev of_nets : ℕ
+    of_nets = faulty_nets j.block.kinds j.sources j.first_sinks j.sinks j.terms
 
-    pub block-few : nodes j ≤ nodes_most
-    block-few = kinds-few j.block.kinds (sound_of j.block block_none).kinds_sound_lem
+    pub nets_refused : {refused : bad.BadTable} → Err refused ≡ tested of_nets → Err refused ≡ tested (faulty_job j)
+    unfolding faulty_job faulty_untimed
+    nets_refused e = first_refused _ _ (first_passed _ _ sound e)
 
-    module _ {nets : ℕ} (is : nets ≡ faulty_nets j.block.kinds j.sources j.first_sinks j.sinks j.terms) where
-      by_nets : faulty_untimed j ≡ nets
-      unfolding faulty_untimed
-      by_nets = rw (← e, lt-leb 1 table h) (sym is)
-
-      pub faulty_by_nets : 1 ≤ nets → faulty_job j ≡ nets
-      unfolding faulty_job
-      faulty_by_nets some = rw (by_nets, le-leb 1 nets some)
-
-      -- of the two tables that are lent, what the job has
-      pub faulty_by_times :
-          {found : ℕ} (ds cs : List ℕ) → nets < 1 → j.delays ≡ if_timed j.terms ds → j.criticalities ≡ if_timed j.terms cs
-          → found ≡ faulty_times j.terms (nodes j) (length j.sinks) ds cs → found ≡ faulty_job j
-      unfolding faulty_job
-      faulty_by_times ds cs none d c times =
-          times ∙ sym (rw (by_nets, lt-leb 1 nets none, d, c) (times_lent j.terms (nodes j) (length j.sinks) ds cs))
+    -- of the two tables that are lent, what the job has
+    pub times_last :
+        {r : Result (Unit {0}) bad.BadTable} (ds cs : List ℕ) → of_nets ≡ 0 → j.delays ≡ if_timed j.terms ds → j.criticalities ≡ if_timed j.terms cs
+        → r ≡ tested (faulty_times j.terms (nodes j) (length j.sinks) ds cs) → r ≡ tested (faulty_job j)
+    unfolding faulty_job faulty_untimed
+    times_last ds cs none d c e =
+        let untimed_none : choose (leb 1 (faulty_table j.block)) (faulty_table j.block) of_nets ≡ 0 = rw (sound, none) in
+        first_passed _ _ untimed_none (e ∙ ap tested (rw (d, c) (sym (times_lent j.terms (nodes j) (length j.sinks) ds cs))))
 
 -- ---- the tables that the cheapest path tests, by its refusal
 
--- the table that a refusal names, 0 where it names none
-abbrev pub table_named : List ℕ → ℕ
-table_named [] = 0
-table_named (k ∷ ks) = choose (eqb k 5) (get_or ks 0 0) 0
+-- the table that a refusal names
+abbrev table_named : List ℕ → Result (Unit {0}) bad.BadTable
+table_named [] = Ok tt
+table_named (k ∷ ks) = choose (eqb k 5) (Err (record { table = get_or ks 0 0 })) (Ok tt)
 
 -- a test between two refusals that name no table
-unnamed : (t : Bool) (xs ys : List ℕ) → table_named xs ≡ 0 → table_named ys ≡ 0 → table_named (choose t xs ys) ≡ 0
+unnamed : (t : Bool) (xs ys : List ℕ) → table_named xs ≡ Ok tt → table_named ys ≡ Ok tt → table_named (choose t xs ys) ≡ Ok tt
 unnamed true xs ys p q = p
 unnamed false xs ys p q = q
 
 -- a refusal names the faulty table, whatever else is wrong
-named_table : (table n work : ℕ) (c : Congestion) (marks : List ℕ) → table_named (refusal_of table n c marks work) ≡ table
+named_table : (table n work : ℕ) (c : Congestion) (marks : List ℕ) → table_named (refusal_of table n c marks work) ≡ tested table
 unfolding refusal_of
-named_table table n work c marks =
-    ⊎_elim
-    (λ (h : 1 ≤ table). rw (le-leb 1 table h))
-    (λ (h : table < 1).
-    let none : 0 ≡ table = omega arith in
-    rw (lt-leb 1 table h)
-    (unnamed (too_many c.weighting n) _ _ refl
+named_table zero n work c marks =
+    unnamed (too_many c.weighting n) _ _ refl
     (unnamed (ltb work (work_needed n)) _ _ refl
     (unnamed (ltb (bad_node n c marks) n) _ _ refl
     (unnamed (ltb factor_most c.factor) _ _ refl
     (unnamed (bad_criticality c.weighting) _ _ refl refl))))
-    ∙ none))
-    (le_or_lt 1 table)
+named_table (suc table) n work c marks = rw (le-leb 1 (suc table) (omega arith))
 
 -- with no sinks and one entry of work memory every call is refused, for a table or for another reason
-module _ (b : Block) (w : Weighting) (ds : List ℕ) (factor : ℕ) (histories others marks work : List ℕ) (short : length work ≡ 1) where
+module _ (b : Block) (w : Weighting) (ds : List ℕ) where
   abbrev priced : Congestion
-  priced = weighed_congestion w ds factor histories others
+  priced = weighed_congestion w ds 0 [] []
+
+  abbrev asked : search.PathReply
+  asked = path_reply b priced [] [] (0 ∷ [])
 
   -- one entry is too few for any job
-  unfit : fitting b priced marks [] work ≡ false
+  unfit : fitting b priced [] [] (0 ∷ []) ≡ false
   unfit =
-      by_test (fitting b priced marks [] work)
+      by_test (fitting b priced [] [] (0 ∷ []))
       (λ q.
-      absurd (let f = fitted b priced marks [] work q in let some = f.some in let enough = f.enough in omega arith))
+      absurd (let f = fitted b priced [] [] (0 ∷ []) q in let some = f.some in let enough = f.enough in omega arith))
       (λ q. q)
 
-  -- of what prices the turn the tables' test reads the delays alone
-  no_sinks : faulty_with_sinks b priced [] ≡ faulty_with_delays b (weighed_congestion w ds 0 [] [])
+  no_sinks : faulty_with_sinks b priced [] ≡ faulty_with_delays b priced
   unfolding faulty_with_sinks faulty_with_delays search.sink_list_sound every
   no_sinks =
       by_test (leb 1 (faulty_table b)) (λ q. rw q) (λ q. rw q)
 
-  refused : table_named (path_reply b priced marks [] work).refusal ≡ faulty_with_delays b (weighed_congestion w ds 0 [] [])
+  named : (r : Result (Option Joins) Refusal) {left : List ℕ} → path_reply_of r left ≡ asked → table_named (search.path_refusal r) ≡ tested (faulty_with_delays b priced)
   unfolding path_reply
-  refused = rw unfit (named_table (faulty_with_sinks b priced []) (block.nodes b) (length work) priced marks ∙ no_sinks)
+  named r e =
+      ap (λ a. table_named a.refusal) e
+      ∙ rw unfit (named_table (faulty_with_sinks b priced []) (block.nodes b) 1 priced [] ∙ ap tested no_sinks)
 
-  pub named :
-      {r answered : PathAnswer} (left : List ℕ) → path_reply_of r left ≡ path_reply b priced marks [] work → r ≡ answered
-      → table_named (path_reply_of answered left).refusal ≡ faulty_with_delays b (weighed_congestion w ds 0 [] [])
-  named left e t = ap (λ a. table_named (path_reply_of a left).refusal) (sym t) ∙ ap (λ a. table_named a.refusal) e ∙ refused
+  pub named_table_refused : {refusal : Refusal} {table : ℕ} {left : List ℕ} → refusal ≡ BadTable table → path_reply_of (Err refusal) left ≡ asked → Err (record { table = table }) ≡ tested (faulty_with_delays b priced)
+  named_table_refused {refusal} {table} f e = ap (λ a. table_named (search.refusal_numbers a)) (sym f) ∙ named (Err refusal) e
 
-pub named_untimed : {r : ℕ} (b : Block) (ds : List ℕ) → r ≡ faulty_with_delays b (weighed_congestion untimed ds 0 [] []) → r ≡ faulty_table b
+  pub named_no_table : (refusal : Refusal) {left : List ℕ} → ((table : ℕ) → refusal ≡ BadTable table → ⊥) → path_reply_of (Err refusal) left ≡ asked → Ok tt ≡ tested (faulty_with_delays b priced)
+  named_no_table (BadTable table) other e = absurd (other table refl)
+  named_no_table (ShortWork needed) other e = named (Err (ShortWork needed)) e
+  named_no_table (BadNumber place) other e = named (Err (BadNumber place)) e
+  named_no_table (TooLarge n) other e = named (Err (TooLarge n)) e
+
+  pub named_none : (joins : Option Joins) {left : List ℕ} → path_reply_of (Ok joins) left ≡ asked → Ok tt ≡ tested (faulty_with_delays b priced)
+  named_none joins e = named (Ok joins) e
+
+pub named_untimed : (b : Block) (ds : List ℕ) → faulty_with_delays b (weighed_congestion untimed ds 0 [] []) ≡ faulty_table b
 unfolding faulty_with_delays
-named_untimed b ds e =
-    e
-    ∙ ⊎_elim
+named_untimed b ds =
+    ⊎_elim
     (λ (h : 1 ≤ faulty_table b). rw (le-leb 1 (faulty_table b) h))
     (λ (h : faulty_table b < 1). let none : 0 ≡ faulty_table b = omega arith in rw (lt-leb 1 (faulty_table b) h) none)
     (le_or_lt 1 (faulty_table b))

@@ -29,6 +29,7 @@ pub fn plain_terms(limit: u32) -> Terms
 }
 
 // The rule is 1 or 2, and the last iteration before rule 2 is followed keeps its bounds.
+#[tactic(auto, unfolding(crate::specs::Tables::rule_sound, crate::specs::Tables::one_of))]
 pub fn rule_sound(rule: u32, until: u32) -> bool
     ensures { result ≡ rule_sound rule until }
 {
@@ -36,6 +37,7 @@ pub fn rule_sound(rule: u32, until: u32) -> bool
 }
 
 // The limit, each number of the tuning and the rule keep their bounds.
+#[tactic(auto, unfolding(crate::specs::Tables::terms_sound, crate::specs::Tables::limit_sound))]
 pub fn terms_sound(terms: Terms) -> bool
     ensures { result ≡ terms_sound terms }
 {
@@ -46,6 +48,7 @@ pub fn terms_sound(terms: Terms) -> bool
 }
 
 // A timed job has more nodes, or a larger limit, than it may.
+#[tactic(auto, unfolding(crate::specs::Tables::exceeds))]
 pub fn exceeds(nodes: usize, terms: Terms) -> bool
     ensures { result ≡ exceeds_bounds nodes terms }
 {

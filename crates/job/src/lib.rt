@@ -17,8 +17,8 @@ pub struct Terms {
     pub timed: bool,
 }
 
-// A job as it is lent: tables 1 to 4, each net's source, where each net's sinks begin in table 7, the sinks, of a timed job each node's delay
-// and each sink's criticality, and the terms.
+// A job as it is lent: tables 1 to 4, each net's source, where each net's sinks begin in table 7, the sinks, of a timed job each node's
+// delay and each sink's criticality, and the terms.
 #[derive(Clone, Copy)]
 pub struct JobTables<'a> {
     pub block: Tables<'a>,

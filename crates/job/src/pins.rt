@@ -3,6 +3,7 @@ ghost use Rattle.std.specs.Prelude.{◌≡◌, get_or};
 ghost use Rattle.job.specs.Tables.{source_kind, sink_kind, source_pins, sink_pins};
 
 // A source is of kind 0 or 2.
+#[tactic(auto, unfolding(crate::specs::Tables::one_of))]
 pub fn source_kind(kind: u8) -> bool
     ensures { result ≡ source_kind kind }
 {
@@ -10,6 +11,7 @@ pub fn source_kind(kind: u8) -> bool
 }
 
 // A sink is of kind 1 or 3.
+#[tactic(auto, unfolding(crate::specs::Tables::one_of))]
 pub fn sink_kind(kind: u8) -> bool
     ensures { result ≡ sink_kind kind }
 {

@@ -16,6 +16,7 @@ use price::{CRITICALITY_MOST, Weighting};
 use search::{BadTable, NODES_MOST, Prices, Refusal, SINKS_MOST, Tables};
 
 // Table 5: 1 to 512 nets, each source below n.
+#[tactic(auto, unfolding(crate::specs::Tables::sources_sound))]
 pub fn sources_sound(n: usize, source: &[u16]) -> bool
     ensures { result ≡ sources_sound n source.now }
 {
@@ -37,6 +38,7 @@ fn rises(first_sink: &[u32]) -> bool
 }
 
 // Table 6: "nets + 1 entries: begins with 0, strictly rises, ends with table 7's length."
+#[tactic(auto, unfolding(crate::specs::Tables::first_sinks_sound))]
 fn first_sinks_sound(nets: usize, places: usize, first_sink: &[u32]) -> bool
     requires { nets ≤ nets_most }
     ensures { result ≡ first_sinks_sound nets places first_sink.now }
@@ -91,6 +93,7 @@ fn net_sound(n: usize, from: u16, sinks: &[u16], seen: &mut [u8]) -> bool
 }
 
 // Table 7, once tables 5 and 6 keep their rules.
+#[tactic(auto, unfolding(crate::specs::Tables::sinks_sound))]
 fn sinks_sound(n: usize, source: &[u16], first_sink: &[u32], sink: &[u16]) -> bool
     requires n_le_nodes_most { n ≤ nodes_most }
     requires source_value { sources_sound n source.now ≡ true }
@@ -112,6 +115,7 @@ fn sinks_sound(n: usize, source: &[u16], first_sink: &[u32], sink: &[u16]) -> bo
 }
 
 // Tables 5 to 8 keep their rules, or the lowest that doesn't is refused.
+#[tactic(auto, unfolding(crate::specs::Tables::faulty_nets))]
 fn faulty_nets(job: &JobTables) -> Result<(), BadTable>
     requires { length job.now.block.kind.now ≤ nodes_most }
     ensures { let j = job.now in
@@ -146,8 +150,11 @@ fn faulty_with_delays(tables: &Tables, weighting: Weighting, delay: &[u16]) -> R
         history: &[],
         others: &[],
     };
-    match search::cheapest_path(tables, &prices, &mut [0; 1], &[], &[]) {
-        Err(Refusal::BadTable(table)) => Err(BadTable { table }),
+    let Err(refusal) = search::cheapest_path(tables, &prices, &mut [0; 1], &[], &[]) else {
+        return Ok(());
+    };
+    match refusal {
+        Refusal::BadTable(table) => Err(BadTable { table }),
         _ => Ok(()),
     }
 }
@@ -164,6 +171,7 @@ pub fn faulty_block(tables: &Tables) -> Result<(), BadTable>
 }
 
 // Table 10: a criticality a sink, each 0 to 9.
+#[tactic(auto, unfolding(crate::specs::Tables::criticalities_sound))]
 fn criticalities_sound(sinks: usize, criticality: &[u8]) -> bool
     ensures { result ≡ criticalities_sound sinks criticality.now }
 {
@@ -171,6 +179,7 @@ fn criticalities_sound(sinks: usize, criticality: &[u8]) -> bool
 }
 
 // Tables 9 and 10 of a timed job keep their rules, or the lower that doesn't is refused, once tables 1 to 4 keep theirs.
+#[tactic(auto, unfolding(crate::specs::Tables::faulty_times))]
 fn faulty_times(job: &JobTables) -> Result<(), BadTable>
     requires { faulty_table (block_in job.now.block) ≡ 0 }
     ensures { let j = job.now in

@@ -11,7 +11,7 @@ use lib.ListN.{length, get_or, take, drop, replicate}
 use lib.Seq.{take_at}
 use borrow.Author.Tests.{eq-eqb, ne_eqb}
 use Rattle.price.specs.Test.{both}
-use Rattle.price.proofs.TestLaws.{both_right, true≢false}
+use Rattle.price.proofs.TestLaws.{both_right}
 use Rattle.price.proofs.ListLaws.{drop-same}
 use Rattle.search.specs.Block.{Block, block_of, graph_of, row, has_edge}
 use Rattle.search.specs.Paths.{Fair}
@@ -24,7 +24,7 @@ use Rattle.search.specs.Priceable.{Fitted, PricesReady}
 use Rattle.search.specs.TurnWork.{path_in}
 use Rattle.search.specs.AimedTurn.{Started, TurnReady, SinksAimed, Readable, AimedRead, none, reads}
 use Rattle.search.specs.AimedReplies.{AimedPathReply, joined_reply, aimed_turn_reply, aimed_path_reply, aimed_path_reply_of, joins_of}
-use Rattle.std.specs.Prelude.{Option, Some, None, Result, Ok, Err}
+use Rattle.std.specs.Prelude.{Option, Some, None, Result, Ok, Err, IsErrAnd}
 use Rattle.search.specs.declared.AimedTurn.{AimedTurn}
 use Rattle.search.specs.declared.Joins.{Joins}
 use Rattle.search.specs.declared.Refusal.{Refusal}
@@ -313,11 +313,13 @@ module _ (ks cs fs ts fb bs : List ℕ) (c : Congestion) (marks sinks work : Lis
   unfolding aimed_path_reply
   aimed_short t short = (rw (t, ne_eqb (length fb) (length ks + 1) short), λ due back. tt)
 
-  -- where another one is wrong what is due is the reply, and something is
+  -- where another one is wrong what is due is the reply
   pub aimed_refused :
-      (r : Refusal) → fitting (block_of ks cs fs ts) c marks sinks work ≡ false → refusal_numbers r ≡ path_due (block_of ks cs fs ts) c marks sinks work
-      → (aimed_path_reply_of (Err r) work ≡ aimed_path_reply (block_of ks cs fs ts) (graph_of ks fb bs) c marks sinks work)
+      (r : Result AimedTurn Refusal) (refusal : Refusal) → IsErrAnd r (λ x. x ≡ refusal) → fitting (block_of ks cs fs ts) c marks sinks work ≡ false
+      → refusal_numbers refusal ≡ path_due (block_of ks cs fs ts) c marks sinks work
+      → (aimed_path_reply_of r work ≡ aimed_path_reply (block_of ks cs fs ts) (graph_of ks fb bs) c marks sinks work)
       × (path_due (block_of ks cs fs ts) c marks sinks work ≡ [] → ListsBack (block_of ks cs fs ts) (graph_of ks fb bs)
-      → JoinsCheapest (block_of ks cs fs ts) (price_at (block_of ks cs fs ts) c) marks sinks (Err r) work)
+      → JoinsCheapest (block_of ks cs fs ts) (price_at (block_of ks cs fs ts) c) marks sinks (joins_of r) work)
   unfolding aimed_path_reply
-  aimed_refused r t e = (rw (t, e), λ due back. absurd (true≢false (sym (due-fitting ks cs fs ts c marks work sinks due) ∙ t)))
+  aimed_refused (Ok _) refusal is t e = absurd is
+  aimed_refused (Err _) refusal is t e = (rw (is, t, e), λ due back. tt)

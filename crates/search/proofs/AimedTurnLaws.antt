@@ -5,11 +5,10 @@ use mathlib.Core.List.{List, [], ◌∷◌, ◌++◌, append_assoc}
 use mathlib.Core.Logic.{⊎_elim}
 use mathlib.Core.Path.{◌≡◌, refl, sym, ◌∙◌, ap}
 use Prim.Native.Nat.{ℕ, zero, suc, ◌+◌, ◌-◌, ◌*◌, ◌%◌, ◌≤◌, ◌<◌}
-use native.Mathlib.Nat.{le_antisymm, not-suc-le-zero}
+use native.Mathlib.Nat.{le_antisymm}
 use native.Mathlib.Omega.{arith}
-use lib.ListN.{length, get_or, set, take, drop, replicate, length-append, length-replicate, replicate-append-replicate}
+use lib.ListN.{length, get_or, take, drop, replicate, length-append, length-replicate, replicate-append-replicate}
 use lib.Seq.{take_at, drop_at, drop-drop}
-use borrow.Author.Count.{below_more}
 use borrow.Author.Tests.{eq-eqb, ne_eqb}
 use Rattle.price.specs.Lists.{up_to}
 use Rattle.price.proofs.TestLaws.{either_way, le_or_lt, never_true}
@@ -20,7 +19,7 @@ use Rattle.search.specs.Paths.{Fair}
 use Rattle.search.specs.Distance.{far, tree_has, distances, distance}
 use Rattle.search.specs.Turn.{joins, stuck, before, path_to, open_distances, nearest_distance, nearest_place, turn}
 use Rattle.search.specs.Aimed.{expands_by, expanded_by}
-use Rattle.search.specs.Layout.{dist_at, pred_at, SameBut}
+use Rattle.search.specs.Layout.{dist_at, pred_at}
 use Rattle.search.specs.Labels.{label_at, from_at}
 use Rattle.search.specs.Replies.{sinks_most, cleared, read_off}
 use Rattle.search.specs.TurnWork.{trail, path_in, Leads, Found, Read}
@@ -28,7 +27,6 @@ use Rattle.search.specs.Aiming.{AimDone}
 use Rattle.search.specs.AimedTurn.{PredecessorsMoved, Readable}
 use Rattle.search.specs.declared.Joins.{Joins}
 use Rattle.search.proofs.EdgeLaws.{Shaped}
-use Rattle.search.proofs.StoreLaws.{store_here, store_other, same_none, same_store}
 use Rattle.search.proofs.BeforeLaws.{before_node, before_near}
 use Rattle.search.proofs.PathToLaws.{path-short}
 use Rattle.search.proofs.TrailLaws.{trail_is}

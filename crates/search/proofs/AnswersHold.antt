@@ -16,7 +16,7 @@ use Rattle.search.specs.Turn.{Congestion, price_at, turn}
 use Rattle.search.specs.Clamped.{clamped_price}
 use Rattle.search.specs.Replies.{cleared, refusal_of, faulty_with_delays, faulty_with_sinks, SearchReply, search_unless_refused, timed_search_reply, search_reply_of, LeavesLeastCosts}
 use Rattle.search.specs.Replies.{PathReply, turn_reply, fitting, path_due, path_reply, refusal_numbers, path_reply_of, JoinsCheapest}
-use Rattle.std.specs.Prelude.{Option, Some, None, Result, Ok, Err}
+use Rattle.std.specs.Prelude.{Option, Some, None, Result, Ok, Err, IsErrAnd}
 use Rattle.search.specs.declared.Joins.{Joins}
 use Rattle.search.specs.declared.Refusal.{Refusal}
 use Rattle.price.proofs.TestLaws.{true≢false}
@@ -131,9 +131,15 @@ module _ (ks cs fs ts : List ℕ) (c : Congestion) (marks work : List ℕ) where
         let is : path_reply_of r w' ≡ path_reply block c marks sinks work = rw t e in
         (is, λ none. path-cheapest none r w' is)
 
-    -- where one is wrong what is due is the reply, and something is
+    -- where one is wrong what is due is the reply
     pub path-refused :
-        (r : Refusal) → fitting block c marks sinks work ≡ false → refusal_numbers r ≡ path_due block c marks sinks work
-        → (path_reply_of (Err r) work ≡ path_reply block c marks sinks work) × (path_due block c marks sinks work ≡ [] → JoinsCheapest block price marks sinks (Err r) work)
+        (r : Result (Option Joins) Refusal) (refusal : Refusal) → IsErrAnd r (λ x. x ≡ refusal) → fitting block c marks sinks work ≡ false
+        → refusal_numbers refusal ≡ path_due block c marks sinks work
+        → (path_reply_of r work ≡ path_reply block c marks sinks work) × (path_due block c marks sinks work ≡ [] → JoinsCheapest block price marks sinks r work)
     unfolding path_reply
-    path-refused r t e = (rw (t, e), λ none. tt)
+    path-refused (Ok _) refusal is t e = absurd is
+    path-refused (Err _) refusal is t e = (rw (is, t, e), λ none. tt)
+
+    -- and something is
+    pub some-due : fitting block c marks sinks work ≡ false → [] ≡ path_due block c marks sinks work → ⊥
+    some-due t none = true≢false (sym (due-fitting (sym none)) ∙ t)

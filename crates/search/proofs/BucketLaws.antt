@@ -31,21 +31,7 @@ pub record NoneFrom (head : List ℕ) (from level : ℕ) : Type 0 where
   pub least : from ≤ level
   pub none : (k : ℕ) → from ≤ k → k < level → get_or head (k % buckets) 0 ≡ 0
 
-pub none_begin : (head : List ℕ) (from : ℕ) → NoneFrom head from from
-none_begin head from = record { least = omega arith; none = λ k l h. absurd (omega arith) }
-
 module _ {head : List ℕ} {from level : ℕ} (s : NoneFrom head from level) where
-  pub none_more : get_or head (level % buckets) 0 ≡ 0 → NoneFrom head from (level + 1)
-  none_more e =
-      record {
-        least = omega (arith, s.least);
-        none = λ k l h.
-            ⊎_elim
-            (λ (q : k ≡ level). rw q e)
-            (λ (d : k ≡ level → ⊥). s.none k l (omega arith))
-            (same_or_not k level);
-      }
-
   -- within a round, since some bucket has a node
   pub none-room : (b : ℕ) × (b < buckets) × (get_or head b 0 ≡ 0 → ⊥) → level < from + buckets
   none-room (b, h, some) =

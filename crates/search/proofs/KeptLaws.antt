@@ -1,19 +1,16 @@
--- What a function's answer says of the test that it computes, and a flag that is kept over a whole list.
+-- What a function's answer says of the test that it computes, a flag that is kept over a whole list, and a test of every entry.
 --     refused, passed                   the answer and the test
---     Kept, kept-, keeps, every-        the flag, the entries passed and those that are left
+--     Kept, kept-, keeps                the flag, the entries passed and those that are left
+--     every_all                         a test of every entry in the words of std
 -- Assumes nothing.
 use mathlib.Core.Bool.{Bool, true, false, not, ◌&&◌}
 use mathlib.Core.List.{List, [], ◌∷◌}
 use mathlib.Core.Path.{◌≡◌, refl, sym, ◌∙◌, ap}
-use Prim.Native.Nat.{ℕ, ◌+◌, ◌≤◌, ◌<◌}
-use native.Mathlib.Numerals.{add-one}
-use lib.ListN.{length, get_or, drop, drop_of_length-le}
-use lib.Seq.{drop-cons}
+use Prim.Native.Nat.{ℕ}
 use borrow.Author.Tests.{not-true, not-false}
 use Rattle.std.specs.List.{list_all}
 use Rattle.price.specs.Test.{both}
 use Rattle.price.specs.Lists.{every}
-use Rattle.price.proofs.TestLaws.{both_false_right}
 
 -- ---- a function's answer to a test
 

@@ -7,12 +7,12 @@
 --   * EdgeLaws        edges where tables 3 and 4 have their lengths but may break their rules
 --   * TableOfLaws     tables with the edges of a test: those that both pairs of tables have, and those of the tables by target
 --     ClampedLaws     numbers clamped within bounds, and the price over them
---   * KeptLaws        a function's answer and the test that it computes; a flag that is kept over a list
+--   * KeptLaws        a function's answer and the test that it computes; a flag that is kept over a list; a test of every entry
 --   * TableLaws       how the tests of the tables decide
 --     TestedLaws      a test of tables as a result: what it refuses, and what it has shown
 --   * RowLaws         a row of table 4 keeps its rule, by the places of the table
 --   * PriceableLaws   what tests that pass have shown: lengths, sinks, a sound graph, prices within bounds and what the price answers
---     PassLaws        a pass over a list that never leaves early
+--     PassLaws        a test of every number below n, one more and by its parts; whether a node is bad
 --
 -- Paths, distances, turns: what they are
 --   * DistinctLaws    a list with no entry twice has at most n entries below n
@@ -53,7 +53,6 @@
 --     ReadyLaws       where nothing is refused, every test has passed
 --     SearchTestLaws  the tests before a search, and its reply
 --     PathTestLaws    what the tests before a turn refuse, and what they have shown
---     FitLaws         how the test of all lengths decides
 --   * PathReplyLaws   the answer of a turn by its cases
 --     AnswersHold     theorem: what the answers are in terms of paths alone
 --   * AimedReplyLaws  the reply of the search that aims: a turn, a refusal, and the answer in terms of paths alone
@@ -98,7 +97,6 @@ pub mod JoinLaws
 pub mod ReadyLaws
 pub mod SearchTestLaws
 pub mod PathTestLaws
-pub mod FitLaws
 pub mod PathReplyLaws
 pub mod AnswersHold
 pub mod AimedReplyLaws

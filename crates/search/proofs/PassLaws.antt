@@ -1,23 +1,22 @@
--- A pass over a list that never leaves early: its flag tells whether every entry passes the test. Three such passes tell whether a node is bad.
+-- A test of every number below n: one number more, two tests at once, a list that is too short. Three such tests tell whether a node is bad.
 -- Assumes nothing.
 use mathlib.Core.Bool.{Bool, true, false, not, ◌&&◌}
-use mathlib.Core.List.{List, []}
-use mathlib.Core.Logic.{◌⊎◌, ⊎_elim}
+use mathlib.Core.List.{List}
+use mathlib.Core.Logic.{⊎_elim}
 use mathlib.Core.Path.{◌≡◌, refl, sym, ◌∙◌, ap}
 use Prim.Native.Nat.{ℕ, ◌+◌, ◌≤◌, ◌<◌}
 use native.Mathlib.Omega.{arith}
 use lib.Dec.{leb, ltb}
 use lib.ListN.{length, get_or}
-use borrow.Author.Tests.{leb-true, leb-false, le-leb, lt-leb, lt-ltb, le-ltb, not-true, not-false}
-use borrow.Author.Count.{below_none, below_more}
+use borrow.Author.Tests.{leb-true, le-leb, lt-leb, lt-ltb, le-ltb, not-false}
+use borrow.Author.Count.{below_more}
 use Rattle.price.specs.Test.{both}
 use Rattle.price.specs.Bounds.{others_most}
 use Rattle.price.specs.Timed.{history_bound}
-use Rattle.price.specs.declared.Weighting.{Weighting}
 use Rattle.price.specs.Lists.{first_below}
 use Rattle.price.proofs.TestLaws.{true≢false, test_same, both_true, both_left, both_right, le_or_lt}
 use Rattle.price.proofs.BelowLaws.{first_below-below, first_below-all}
-use Rattle.search.specs.Turn.{Congestion, weighed_congestion}
+use Rattle.search.specs.Turn.{Congestion}
 use Rattle.search.specs.Replies.{bounded, history_bounded, node_sound, bad_node}
 use Rattle.search.specs.AllBelow.{all_below}
 

@@ -1,6 +1,5 @@
 -- Laws of the queue, a tournament tree: what a store leaves of it, how the loops put it right, and that entry 1 is the least.
 --     queue_whole                          an entry that was left out is right too
---     queue_leaf, queue-node                a store at a leaf leaves only the entry above it
 --     queue-same, queue_aside, queue_way     stores outside the queue leave it right
 --     queue-here, queue_up                  a store that puts an inner entry right
 --     entry_child, queue-least             an inner entry is one of its children; entry 1 is at most every leaf
@@ -9,7 +8,7 @@
 -- Assumes nothing.
 use mathlib.Core.List.{List}
 use mathlib.Core.Logic.{◌⊎◌, ⊎_elim, inl, inr}
-use mathlib.Core.Path.{◌≡◌, refl, sym, ◌∙◌, subst}
+use mathlib.Core.Path.{◌≡◌, sym, ◌∙◌, subst}
 use Prim.Native.Nat.{ℕ, zero, suc, ◌+◌, ◌-◌, ◌*◌, ◌/◌, ◌≤◌, ◌<◌, min}
 use native.Mathlib.Nat.{not-suc-le-zero, le_refl, le_trans, min-le_left, min-le_right, min-eq_left, min-eq_right, min_comm, le-min, eq-or-lt_of_le}
 use native.Mathlib.Omega.{arith}
@@ -43,10 +42,6 @@ module _ (n : ℕ) (w : List ℕ) (i x : ℕ) where
       (entry_other (2 * j) (λ e. u (omega arith)))
       (entry_other (2 * j + 1) (λ e. u (omega arith)))
 
-  -- a store at a leaf
-  pub queue_leaf : n ≤ i → Tournament n w → TournamentBut n (set w (n + i) x) (i / 2)
-  queue_leaf leaf b j l h u = queue-far j (λ e. omega arith) u (b j l h)
-
   -- a store at an inner entry that makes it the least of its children
   module _ (pos : 1 ≤ i) (inner : i < n) (long : 3 * n ≤ length w) (least : x ≡ min (entry_at n w (2 * i)) (entry_at n w (2 * i + 1))) where
     pub queue-here : TournamentAt n (set w (n + i) x) i
@@ -62,12 +57,6 @@ module _ (n : ℕ) (w : List ℕ) (i x : ℕ) where
         (λ (s : j ≡ i). rw s queue-here)
         (λ (d : j ≡ i → ⊥). queue-far j d u (b j l h d))
         (same_or_not j i)
-
--- a store at a node's leaf
-pub queue-node : (n : ℕ) (w : List ℕ) (v x : ℕ) → Tournament n w → TournamentBut n (set w (2 * n + v) x) ((n + v) / 2)
-queue-node n w v x b =
-    let e : n + (n + v) ≡ 2 * n + v = omega arith in
-    subst (λ (k : ℕ). TournamentBut n (set w k x) ((n + v) / 2)) e (queue_leaf n w (n + v) x (omega arith) b)
 
 -- where the entries are as before
 pub queue-same : (n : ℕ) (w w' : List ℕ) → ((k : ℕ) → 1 ≤ k → k < 2 * n → entry_at n w' k ≡ entry_at n w k) → Tournament n w → Tournament n w'
@@ -145,10 +134,6 @@ module _ (n : ℕ) (old w : List ℕ) (i : ℕ) where
         same = same_store (n + 1) (2 * n) old w (n + i) x (omega arith) (omega (arith, k.inner)) k.same;
       }
 
-  -- no inner entry is left
-  pub carried_all : i ≤ 0 → Carrying n old w i → Tournament n w
-  carried_all l k j p h = k.but j p h (λ e. omega arith)
-
 -- ---- carrying a lower key up
 
 -- one of two numbers falls to a key
@@ -191,10 +176,6 @@ pub record Lowering (n : ℕ) (old w : List ℕ) (key i : ℕ) : Type 0 where
   pub below : LoweredBelow n key w i
 
 module _ (n : ℕ) (old w : List ℕ) (key i : ℕ) (pos : 0 < i) where
-  -- entry i is not above the key
-  pub lowered-all : entry_at n w i ≤ key → Lowering n old w key i → Tournament n w
-  lowered-all le k = carried n old w i _ refl (sym (k.below pos ∙ min-eq_left le)) k.carrying
-
   -- entry i falls to the key, and the one above it may be above it too
   pub lowered_up : key < entry_at n w i → Lowering n old w key i → Lowering n old (set w (n + i) key) key (i / 2)
   lowered_up less k =
@@ -203,14 +184,6 @@ module _ (n : ℕ) (old w : List ℕ) (key i : ℕ) (pos : 0 < i) where
         carrying = carried_up n old w i key pos (sym (k.below pos ∙ min-eq_right (omega arith))) k';
         below = λ h. lowered n w i key (omega arith) (omega (arith, k'.inner)) k'.room (omega arith) (k'.but (i / 2) h (omega (arith, k'.inner)) (λ e. omega arith)) h;
       }
-
--- a store at a node's leaf that lowers it
-pub lowered-node :
-    (n : ℕ) (w : List ℕ) (v key : ℕ) → v < n → 3 * n ≤ length w → key ≤ leaf_at n w v → Tournament n w → LoweredBelow n key (set w (2 * n + v) key) ((n + v) / 2)
-lowered-node n w v key node long low b h =
-    let e : n + (n + v) ≡ 2 * n + v = omega arith in
-    subst (λ (k : ℕ). LoweredBelow n key (set w k key) ((n + v) / 2)) e
-    (lowered n w (n + v) key (omega arith) (omega arith) long (rw e low) (b ((n + v) / 2) h (omega arith))) h
 
 -- ---- going down to the least leaf
 

@@ -2,16 +2,14 @@
 --     store_here, store_other      the place itself, another place
 --     stored_other                 another place of a list that is known to be the one after the store
 --     same_none, same_store        a list is as before but for a range of places, with no store yet and with one more
---     part_same, part_here         a range of places is written over
 --     queued                       what the store of a waiting node leaves, once the queue is right again
 -- Assumes nothing.
-use mathlib.Core.List.{List, ◌++◌}
+use mathlib.Core.List.{List}
 use mathlib.Core.Path.{◌≡◌, refl, ◌∙◌, ap}
-use Prim.Native.Nat.{ℕ, ◌+◌, ◌-◌, ◌*◌, ◌≤◌, ◌<◌}
+use Prim.Native.Nat.{ℕ, ◌+◌, ◌*◌, ◌≤◌, ◌<◌}
 use native.Mathlib.Omega.{arith}
-use lib.ListN.{length, get_or, set, take, drop, length-set, length-append, length-take, length-drop, get_or-append}
+use lib.ListN.{length, get_or, set, length-set}
 use lib.Seq.{get_or-set_same, get_or-set_other}
-use Rattle.std.proofs.lemmas.List.{get_or-append_right, get_or-take, get_or-drop}
 use Rattle.search.specs.Layout.{Tournament, SameBut, Queued}
 
 pub store_here : (w : List ℕ) (i x : ℕ) → i < length w → get_or (set w i x) i 0 ≡ x
@@ -33,26 +31,6 @@ same_store lo hi old w i x l h s =
       low = λ j p. store_other w i x j (λ e. omega arith) ∙ s.low j p;
       high = λ j p. store_other w i x j (λ e. omega arith) ∙ s.high j p;
     }
-
--- ---- a range of places is written over
-
-module _ {lo hi : ℕ} (w part : List ℕ) {w' : List ℕ} (l : lo ≤ hi) (h : hi ≤ length w) (long : length part ≡ hi - lo) (e : w' ≡ take lo w ++ (part ++ drop hi w)) where
-  behind : (j : ℕ) → lo ≤ j → get_or w' j 0 ≡ get_or (part ++ drop hi w) (j - lo) 0
-  behind j p = rw e (get_or-append_right (take lo w) (part ++ drop hi w) lo j 0 (simp length-take (omega arith)) p)
-
-  pub part_here : (j : ℕ) → lo ≤ j → j < hi → get_or w' j 0 ≡ get_or part (j - lo) 0
-  part_here j p q = behind j p ∙ get_or-append part (drop hi w) 0 (j - lo) (omega arith)
-
-  pub part_same : SameBut lo hi w w'
-  part_same =
-      record {
-        long = rw e (simp (length-append, length-take, length-drop) (omega arith));
-        low = λ j p. rw e (get_or-append (take lo w) (part ++ drop hi w) 0 j (simp length-take (omega arith)) ∙ get_or-take lo w j 0 p);
-        high = λ j p.
-            let place : hi + (j - lo - (hi - lo)) ≡ j = omega arith in
-            behind j (omega arith) ∙ get_or-append_right part (drop hi w) (hi - lo) (j - lo) 0 long (omega arith) ∙ get_or-drop hi w (j - lo - (hi - lo)) 0
-            ∙ ap (λ (i : ℕ). get_or w i 0) place;
-      }
 
 -- ---- what is left once the queue is right again
 

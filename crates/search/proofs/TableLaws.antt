@@ -1,33 +1,28 @@
--- How the tests of the tables and of a list of sinks decide: by what breaks the rule, or by every entry passed.
---     kinds-, capacity-, capacities-    tables 1 and 2
---     falls-, firsts-                   table 3
+-- How the tests of the tables and of a list of sinks decide: where the lengths are right, by their entries.
+--     kinds_, capacities_               tables 1 and 2
+--     falls_                            table 3 never falls
 --     edges-                            table 4 by its rows
---     faulty-                           the lowest faulty table
---     sinks-                            a list of sinks
---     delays-                           table 9
---     with-delays-, with-sinks-         the lowest faulty table, delays and sinks counted
+--     sinks_                            a list of sinks
+--     delays_                           table 9
 -- Assumes nothing.
-use mathlib.Core.Bool.{Bool, true, false, not}
+use mathlib.Core.Bool.{Bool, true, false}
 use mathlib.Core.List.{List, [], ◌∷◌}
-use mathlib.Core.Path.{◌≡◌, refl, sym, ◌∙◌, ap}
+use mathlib.Core.Path.{◌≡◌, refl, ap}
 use Prim.Native.Nat.{ℕ, suc, ◌+◌, ◌-◌, ◌≤◌, ◌<◌}
 use native.Mathlib.Omega.{arith}
-use lib.Dec.{leb, ltb, eqb}
+use lib.Dec.{leb, ltb}
 use lib.ListN.{length, get_or, drop, length-drop}
 use lib.Seq.{drop-cons}
 use Rattle.std.specs.List.{list_all}
-use borrow.Author.Tests.{le-leb, lt-leb, lt-ltb, le-ltb, eq-eqb, ne_eqb}
+use borrow.Author.Tests.{le-leb, eq-eqb}
 use Rattle.price.specs.Test.{both}
 use Rattle.price.specs.Bounds.{kind_most, capacity_most, nodes_most, delay_most}
 use Rattle.price.specs.Lists.{every, neighbours, up_to}
-use Rattle.price.specs.declared.Weighting.{Weighting}
 use Rattle.price.proofs.TestLaws.{both_true, both_false_right}
 use Rattle.price.proofs.ListLaws.{every-all, every-none, neighbours-all, length_up_to, get_or_up_to}
-use Rattle.search.specs.Block.{Block, block_of, graph_of, nodes, row}
-use Rattle.search.specs.Tables.{kinds_sound, capacities_sound, first_edges_sound, row_sound, edge_targets_sound, edges_most, faulty_table, delays_sound}
-use Rattle.search.specs.Turn.{Congestion}
-use Rattle.search.specs.Replies.{sinks_most, sink_list_sound, faulty_delays, faulty_with_delays, faulty_with_sinks}
-use Rattle.search.proofs.BlockLaws.{faulty_of}
+use Rattle.search.specs.Block.{Block, nodes, row}
+use Rattle.search.specs.Tables.{kinds_sound, capacities_sound, row_sound, edge_targets_sound, edges_most, delays_sound}
+use Rattle.search.specs.Replies.{sinks_most, sink_list_sound}
 use Rattle.search.proofs.KeptLaws.{both_alone, every_all}
 
 -- ---- table 1

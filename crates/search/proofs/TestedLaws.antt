@@ -1,6 +1,6 @@
 -- A test of tables as a result (specs/Lent.antt): what is refused is the lowest faulty table, and where nothing is none is faulty.
 -- Assumes nothing.
-use mathlib.Core.List.{List, []}
+use mathlib.Core.List.{List}
 use mathlib.Core.Path.{◌≡◌, refl, sym, ◌∙◌, ap}
 use Prim.Native.Nat.{ℕ, zero, suc, ◌≤◌}
 use native.Mathlib.Omega.{arith}

@@ -1,6 +1,5 @@
 -- Laws that the proofs of `search::aimed_turn` alone cite.
---     StartLaws         the loops before a turn
---     KeyLaws           the lesser of two keys, and that no sum wraps
+--     StartLaws         the loop before a turn
 --     AimState          what holds between two steps of a turn that aims
 --     AimStart          before the first step
 --     AimExpands        a node is expanded
@@ -9,7 +8,6 @@
 --     AimRun            all of it in the terms of `run`
 -- Assumes nothing.
 pub mod StartLaws
-pub mod KeyLaws
 pub mod AimState
 pub mod AimStart
 pub mod AimExpands

@@ -13,7 +13,7 @@ ghost use Rattle.search.specs.Aiming.{Shortened, AimedOver, AimedRow, AimRowRead
 use crate::{Back, Prices, Tables, labels, queue};
 
 // How far the search has come: the least distance of a sink, and the least of a node, outside the tree, that had no estimate when it got
-// this distance. FAR where there is none.
+// this distance. FAR where there is none, so that `min` and `<` need no case for it, as they would for an Option.
 #[derive(Clone, Copy)]
 pub struct Reach {
     pub best: u64,
@@ -25,6 +25,7 @@ fn listed(kind: &[u8], back: &Back, u: usize, v: usize) -> bool
     requires { (v < length kind.now) × (length back.now.first_back.now ≡ length kind.now + 1) }
     ensures { result ≡ has_edge (back_in kind.now back.now) v u }
 {
+    // A faulty row may end before it begins, so it is a range of places and no slice.
     let to = labels::row_place(back.first_back, back.back_source.len(), v + 1);
     for e in labels::row_place(back.first_back, back.back_source.len(), v)..to {
         if back.back_source[e] as usize == u {

@@ -19,7 +19,7 @@ use crate::buckets::BUCKETS;
 use crate::estimate::Front;
 use crate::{AimedTurn, Back, Prices, Tables, aim, buckets, estimate, fill, labels, turn};
 
-// The distance of the joined sink, FAR where none has a path, and how many nodes were expanded.
+// The distance of the joined sink, as `Reach` has it, and how many nodes were expanded.
 #[derive(Clone, Copy)]
 struct Aimed {
     cost: u64,

@@ -1,7 +1,7 @@
 // The nodes that have an estimate and have not spread it yet, in buckets by their level, which is estimate and base cost together, both as
 // base costs. No waiting node's level is more than the largest base cost above the least one, so that the nodes of a bucket have one level.
 // `head[b]` is 1 more than the first waiting node of bucket b, 0 where none waits. From 3n on the work slice of n nodes has the same of the
-// node after each waiting one.
+// node after each waiting one: an entry there is a number, so none is 0 and no Option.
 ghost use Rattle.std.specs.Prelude.{◌≡◌, ℕ, ◌+◌, ◌*◌, ◌%◌, ◌≤◌, ◌<◌, length, get_or, set};
 ghost use Rattle.price.specs.Bounds.{nodes_most};
 ghost use Rattle.search.specs.Layout.{link_at};

@@ -8,7 +8,7 @@ use mathlib.Core.Bool.{Bool, true}
 use mathlib.Core.List.{List}
 use mathlib.Core.Logic.{⊎_elim, inr}
 use mathlib.Core.Path.{◌≡◌, refl, sym, ◌∙◌, ap, subst}
-use Prim.Native.Nat.{ℕ, ◌+◌, ◌*◌, ◌^◌, ◌≤◌, ◌<◌, min}
+use Prim.Native.Nat.{ℕ, ◌+◌, ◌*◌, ◌≤◌, ◌<◌, min}
 use native.Mathlib.Omega.{arith}
 use lib.Dec.{eqb}
 use lib.ListN.{length, get_or, set, length-set}
@@ -17,11 +17,9 @@ use Rattle.price.specs.Test.{choose}
 use Rattle.price.proofs.TestLaws.{same_or_not, both_true, both_left, both_right, true≢false}
 use Rattle.search.specs.declared.aim.Reach.{Reach}
 use Rattle.search.specs.Block.{Block, nodes, row_start, has_edge}
-use Rattle.search.specs.Paths.{any_price_most}
 use Rattle.search.specs.Distance.{far}
 use Rattle.search.specs.ByTarget.{in_both}
 use Rattle.search.specs.Layout.{dist_at, entry_at, leaf_at, pred_at, estimate_at, Tournament, Queued}
-use Rattle.search.specs.Estimates.{reach_most}
 use Rattle.search.specs.Aiming.{Shortened, AimedOver, over_unlisted, over-shorter, over_lower, over-kept, AimedAt, at-kept, at-shorter, at_lower, AimedSome, EdgePassed, AimedRow, AimRowReady, BestAim, LowAim, Expanded, ExpandReady}
 use Rattle.search.proofs.EdgeLaws.{place_edge, edge_where}
 use Rattle.search.proofs.StoreLaws.{store_here, store_other}
@@ -251,17 +249,6 @@ module _ {b back : Block} {price : ℕ → ℕ} {u : ℕ} {r₀ : Reach} {w₀ :
           let s = own_same ready.node done.some in
           next_place (some_none (nodes b) (in_both b back) price u w done.some.queue)
           (λ h t. record { least = omega arith; lowest = λ q. omega arith }) (λ s. s) (λ s. s)
-
-      -- no sum wraps on the way
-      pub aim_row-sum : {p : ℕ} → p ≤ any_price_most → dist_at w₀ u + p ≤ reach_most
-      aim_row-sum small = let near = ready.near in omega arith
-
-      pub aim_row-fits : {p : ℕ} → target < nodes b → p ≤ any_price_most → (estimate_at (nodes b) w target ≡ far → ⊥) → dist_at w₀ u + p + estimate_at (nodes b) w target < 2 ^ 64
-      aim_row-fits h small known =
-          let g : estimate_at (nodes b) w target ≡ estimate_at (nodes b) w₀ target = estimate-same ready.node done.some target in
-          let near = ready.near in
-          let few = ready.estimates target h (λ none. known (g ∙ none)) in
-          omega arith
 
       -- or it is looked at
       pub aim_row-more :

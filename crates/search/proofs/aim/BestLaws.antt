@@ -10,7 +10,6 @@ use lib.ListN.{get_or, set}
 use Rattle.price.proofs.TestLaws.{same_or_not, le_or_lt}
 use Rattle.search.specs.Distance.{far}
 use Rattle.search.specs.Layout.{dist_at, estimate_at}
-use Rattle.search.specs.Estimates.{reach_most}
 use Rattle.search.specs.Aiming.{Shortened, BestAim, LowAim}
 use Rattle.search.proofs.StoreLaws.{stored_other}
 
@@ -123,7 +122,3 @@ module _ {n u v d : ℕ} {w w' : List ℕ} (h : v < n) (t : Shortened n u v d w 
     -- v has an estimate
     pub low_other : (estimate_at n w v ≡ far → ⊥) → LowAim n low w'
     low_other known = record { most = s.most; least = low_of low (omega arith) (λ g. absurd (known g)) }
-
-    -- v lacks one
-    pub low_lacks : {low' : ℕ} → d ≤ reach_most → low' ≡ min d low → LowAim n low' w'
-    low_lacks {low'} near is = record { most = inr (omega arith); least = low_of low' (omega arith) (λ _. omega arith) }

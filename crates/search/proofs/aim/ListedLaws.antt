@@ -2,12 +2,11 @@
 -- Assumes nothing.
 use mathlib.Core.Bool.{true, false}
 use mathlib.Core.List.{List}
-use mathlib.Core.Logic.{⊎_elim}
 use mathlib.Core.Path.{◌≡◌, sym, subst}
 use Prim.Native.Nat.{ℕ, ◌+◌, ◌≤◌, ◌<◌, min}
 use native.Mathlib.Omega.{arith}
 use lib.ListN.{length, get_or}
-use Rattle.price.proofs.TestLaws.{never_true, same_or_not}
+use Rattle.price.proofs.TestLaws.{never_true}
 use Rattle.search.specs.Block.{graph_of, has_edge}
 use Rattle.search.proofs.EdgeLaws.{place_edge, edge_where}
 
@@ -16,20 +15,7 @@ pub record NotListedSoFar (firsts sources : List ℕ) (u v e : ℕ) : Type 0 whe
   pub from : min (get_or firsts v 0) (length sources) ≤ e
   pub none : (k : ℕ) → get_or firsts v 0 ≤ k → k < e → get_or sources k 0 ≡ u → ⊥
 
-pub not_begin : {firsts sources : List ℕ} {u v e : ℕ} → e ≡ min (get_or firsts v 0) (length sources) → NotListedSoFar firsts sources u v e
-not_begin is = record { from = omega arith; none = λ k a l s. omega arith }
-
 module _ {firsts sources : List ℕ} {u v e : ℕ} (r : NotListedSoFar firsts sources u v e) where
-  pub not_more : (get_or sources e 0 ≡ u → ⊥) → NotListedSoFar firsts sources u v (e + 1)
-  not_more here = record {
-    from = let f = r.from in omega arith;
-    none = λ k a l s.
-        ⊎_elim
-        (λ (q : k ≡ e). here (subst (λ (j : ℕ). get_or sources j 0 ≡ u) q s))
-        (λ (q : k ≡ e → ⊥). r.none k a (omega arith) s)
-        (same_or_not k e);
-  }
-
   module _ (ks : List ℕ) {to : ℕ} (is : to ≡ min (get_or firsts (v + 1) 0) (length sources)) where
     pub is-listed : e < to → get_or sources e 0 ≡ u → true ≡ has_edge (graph_of ks firsts sources) v u
     is-listed more here =

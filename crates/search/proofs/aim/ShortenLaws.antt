@@ -1,16 +1,15 @@
 -- Node v gets a shorter way, over u, at distance d: two stores, and then it waits if it has an estimate.
 -- Assumes nothing.
 use mathlib.Core.List.{List}
-use mathlib.Core.Path.{◌≡◌, sym, ◌∙◌}
+use mathlib.Core.Path.{◌≡◌, ◌∙◌}
 use Prim.Native.Nat.{ℕ, ◌+◌, ◌*◌, ◌≤◌, ◌<◌}
 use native.Mathlib.Omega.{arith}
 use lib.ListN.{length, get_or, set, length-set}
-use borrow.Author.Tests.{eq-eqb, ne_eqb}
+use borrow.Author.Tests.{ne_eqb}
 use Rattle.search.specs.Distance.{far}
-use Rattle.search.specs.Layout.{estimate_at, Tournament, Queued}
+use Rattle.search.specs.Layout.{estimate_at, Queued}
 use Rattle.search.specs.Aiming.{Shortened}
 use Rattle.search.proofs.StoreLaws.{store_here, store_other}
-use Rattle.search.proofs.QueueLaws.{queue_way}
 
 module _ (n u v d : ℕ) (w : List ℕ) (h : v < n) (room : 8 * n ≤ length w) where
   -- after the two stores
@@ -32,23 +31,6 @@ module _ (n u v d : ℕ) (w : List ℕ) (h : v < n) (room : 8 * n ≤ length w) 
   -- the estimate is read after them
   pub same-estimate : estimate_at n stored v ≡ estimate_at n w v
   same-estimate = elsewhere (6 * n + v) (λ e. omega arith) (λ e. omega arith)
-
-  pub shortened_lacks : Tournament n w → estimate_at n stored v ≡ far → Shortened n u v d w stored
-  shortened_lacks queue none =
-      record {
-        long = stored_long;
-        queue = queue_way n w u v d h queue;
-        dist-here = here-dist;
-        leaf_here =
-            rw (eq-eqb (estimate_at n w v) far (sym same-estimate ∙ none))
-            (elsewhere (2 * n + v) (λ e. omega arith) (λ e. omega arith));
-        pred-here = here-pred;
-        dist_other = λ x l ne. elsewhere x ne (λ e. omega arith);
-        leaf_other = λ x l ne. elsewhere (2 * n + x) (λ e. omega arith) (λ e. omega arith);
-        pred_other = λ x l ne. elsewhere (4 * n + x) (λ e. omega arith) (λ e. ne (omega arith));
-        link_same = λ x l. elsewhere (3 * n + x) (λ e. omega arith) (λ e. omega arith);
-        high = λ j l. elsewhere j (λ e. omega arith) (λ e. omega arith);
-      }
 
   pub shortened_waits : {w' : List ℕ} → (estimate_at n stored v ≡ far → ⊥) → Queued n v (d + estimate_at n stored v) stored w' → Shortened n u v d w w'
   shortened_waits {w'} known q =

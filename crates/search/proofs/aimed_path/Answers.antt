@@ -1,47 +1,29 @@
 -- `search::aimed_path` meets its contract: where every length is right the turn is the reply, else what is due, or the first table by target.
 -- Assumes nothing.
-use mathlib.Core.Bool.{Bool}
-use mathlib.Core.Path.{◌≡◌}
-use Rattle.search.specs.Block.{block_of}
-use Rattle.search.specs.Turn.{weighed_congestion}
-use Rattle.search.specs.Replies.{fitting}
-use Rattle.search.proofs.FitLaws.{fitting_of}
+use mathlib.Core.Path.{sym, ◌∙◌}
+use Rattle.std.specs.Prelude.{Ok}
 use Rattle.search.proofs.PriceableLaws.{fitted}
+use Rattle.search.proofs.AnswersHold.{some-due}
 use Rattle.search.proofs.AimedReplyLaws.{aimed_joined, aimed_short, aimed_refused}
-use Rattle.search.proofs.aimed_path.Goals.{After-fits_timed}
 use Rattle.search.proofs.aimed_path.Goals as goal
 
--- what the two tests of the lengths say together
-module _ (c : After-fits_timed) where
-  all_fit :
-      {t : Bool} → c.fits_timed.result ≡ t
-      → fitting (block_of c.args.kind.now c.args.capacity.now c.args.first_edge.now c.args.edge_target.now)
-      (weighed_congestion c.args.weighting c.args.delay.now c.args.factor c.args.history.now c.args.others.now) c.args.in_tree.now
-      c.args.sinks.now c.args.work.now ≡ t
-  all_fit e =
-      fitting_of (block_of c.args.kind.now c.args.capacity.now c.args.first_edge.now c.args.edge_target.now)
-      (weighed_congestion c.args.weighting c.args.delay.now c.args.factor c.args.history.now c.args.others.now) c.args.in_tree.now
-      c.args.sinks.now c.args.work.now c.fits-fit.ensures c.fits_timed.ensures e
+pub returns-in_err-refused : goal.returns-in_err-refused
+returns-in_err-refused c =
+    let from = c.from_residual in
+    let h = aimed_refused _ _ _ _ _ _ _ _ _ _ from.result _ from.ensures.1 (sym c.fits.ensures ∙ c.if-not-fits.true) c.in_err-refused.ensures in
+    record { answers = h.0; cheapest = h.1 }
+
+pub returns-then-not-fits : goal.returns-then-not-fits
+returns-then-not-fits c = absurd (some-due _ _ _ _ _ _ _ _ (sym c.fits.ensures ∙ c.if-not-fits.true) c.in_ok-refused.ensures)
 
 -- the first table by target has another length than table 3
-pub returns-then-first_back-kind : goal.returns-then-first_back-kind
-returns-then-first_back-kind c =
-    let fits = all_fit (goal.at.returns-then-first_back-kind c).After-fits_timed c.if-fits_timed.true in
-    let h = aimed_short _ _ _ _ _ _ _ _ _ _ fits c.if-first_back-kind.true in
-    record { answers = h.0; cheapest = h.1 }
+pub returns-then-back-tables-clause-answers : goal.returns-then-back-tables-clause-answers
+returns-then-back-tables-clause-answers c = (aimed_short _ _ _ _ _ _ _ _ _ _ (sym c.fits.ensures ∙ c.if-not-fits.false) c.if-back-tables.true).0
 
 pub join-requires : goal.join-requires
-join-requires c =
-    (fitted _ _ _ _ _ (all_fit (goal.at.join-requires c).After-fits_timed c.if-fits_timed.true), c.if-first_back-kind.false)
-
-pub returns-then-fits_timed : goal.returns-then-fits_timed
-returns-then-fits_timed c =
-    let fits = all_fit (goal.at.returns-then-fits_timed c).After-fits_timed c.if-fits_timed.true in
-    let h = aimed_joined _ _ _ _ _ _ _ _ _ _ c.join.result _ fits c.if-first_back-kind.false c.join.ensures in
-    record { answers = h.0; cheapest = h.1 }
+join-requires c = (fitted _ _ _ _ _ (sym c.fits.ensures ∙ c.if-not-fits.false), c.if-back-tables.false)
 
 pub returns : goal.returns
 returns c =
-    let fits = all_fit (goal.at.returns c).After-fits_timed c.if-fits_timed.false in
-    let h = aimed_refused _ _ _ _ _ _ _ _ _ _ c.refused.result fits c.refused.ensures.0 c.refused.ensures.1 in
+    let h = aimed_joined _ _ _ _ _ _ _ _ _ _ (Ok c.join.result) _ (sym c.fits.ensures ∙ c.if-not-fits.false) c.if-back-tables.false c.join.ensures in
     record { answers = h.0; cheapest = h.1 }

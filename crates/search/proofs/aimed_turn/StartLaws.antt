@@ -1,4 +1,4 @@
--- The loops before a turn that aims: a part of the work slice is filled with `far`, and tree nodes get distance 0.
+-- The loop before a turn that aims: tree nodes get distance 0.
 -- Assumes nothing.
 use mathlib.Core.Bool.{Bool, true, false}
 use mathlib.Core.List.{List}
@@ -19,36 +19,6 @@ use Rattle.search.specs.AimedTurn.{Started}
 use Rattle.search.proofs.StoreLaws.{store_here, store_other, same_none, same_store}
 use Rattle.search.proofs.FillLaws.{first_tree, first_other}
 use Rattle.search.proofs.DistanceLaws.{out_of_tree, in_the_tree}
-
--- ---- a part is filled
-
--- entries from `from` to below k hold `far`
-pub record Filling (from to : ℕ) (w w' : List ℕ) (k : ℕ) : Type 0 where
-  pub least : from ≤ k
-  pub most : k ≤ to
-  pub same : SameBut from to w w'
-  pub here : (j : ℕ) → from ≤ j → j < k → get_or w' j 0 ≡ far
-
-pub fill_none : {from to : ℕ} (w : List ℕ) → from ≤ to → Filling from to w w from
-fill_none {from} {to} w h = record { least = omega arith; most = h; same = same_none from to w; here = λ j l m. absurd (omega arith) }
-
-pub fill_more : {from to k : ℕ} {w w' : List ℕ} → to ≤ length w → k < to → Filling from to w w' k → Filling from to w (set w' k far) (k + 1)
-fill_more {from} {to} {k} {w} {w'} long h s =
-    record {
-      least = omega (arith, s.least);
-      most = omega arith;
-      same = same_store from to w w' k far s.least h s.same;
-      here = λ j l m.
-          ⊎_elim
-          (λ (e : j ≡ k). rw e (store_here w' k far (omega (arith, s.same.long))))
-          (λ (d : j ≡ k → ⊥). store_other w' k far j d ∙ s.here j l (omega arith))
-          (same_or_not j k);
-    }
-
-pub fill_all : {from to k : ℕ} {w w' : List ℕ} → to ≤ k → Filling from to w w' k → SameBut from to w w' × ((j : ℕ) → from ≤ j → j < to → get_or w' j 0 ≡ far)
-fill_all h s = (s.same, λ j l m. s.here j l (omega arith))
-
--- ---- tree nodes get distance 0
 
 -- no more are counted where none passes
 count-over : (t : ℕ → Bool) (i k : ℕ) → ((v : ℕ) → i ≤ v → v < i + k → t v ≡ false) → count_below t (i + k) ≡ count_below t i

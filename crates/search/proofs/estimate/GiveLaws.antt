@@ -15,7 +15,7 @@ use lib.Dec.{eqb}
 use lib.ListN.{length, get_or, set, length-set}
 use borrow.Author.Tests.{eq-eqb, ne_eqb}
 use Rattle.price.specs.Test.{choose}
-use Rattle.price.specs.Bounds.{base_most, kind_most, criticality_most}
+use Rattle.price.specs.Bounds.{kind_most, criticality_most}
 use Rattle.price.specs.Prices.{base_cost}
 use Rattle.price.specs.declared.Weighting.{Weighting}
 use Rattle.search.specs.Distance.{far}
@@ -26,7 +26,7 @@ use Rattle.search.specs.Estimates.{scale_most, level_most, key_most, reach_most,
 use Rattle.search.proofs.AimedLaws.{scale_timed, scale_untimed}
 use Rattle.search.proofs.StoreLaws.{store_here, store_other}
 use Rattle.search.proofs.QueueLaws.{queue-same}
-use Rattle.search.proofs.ClampedLaws.{clamped-min, clamped-most, base_light}
+use Rattle.search.proofs.ClampedLaws.{clamped-min, clamped-most}
 
 -- ---- base costs
 
@@ -34,9 +34,6 @@ module _ (kinds : List ℕ) (v : ℕ) where
   base-clamped : base_cost (min (get_or kinds v 0) kind_most) ≡ clamped_base kinds v
   unfolding clamped_base
   base-clamped = ap base_cost (sym (clamped-min kind_most (get_or kinds v 0)))
-
-  pub base-small : {r : ℕ} → r ≡ base_cost (min (get_or kinds v 0) kind_most) → r ≤ base_most
-  base-small e = rw (e ∙ base-clamped) (base_light kinds v)
 
 -- how many times a base cost counts
 module _ (w : Weighting) where

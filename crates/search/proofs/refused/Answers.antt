@@ -1,7 +1,7 @@
 -- `search::refused` meets its contract: what the tests refuse is due.
 -- Assumes nothing.
 use mathlib.Core.List.{[]}
-use mathlib.Core.Path.{sym, ◌∙◌}
+use mathlib.Core.Path.{sym}
 use Rattle.search.proofs.TestedLaws.{refused_table}
 use Rattle.search.proofs.PathTestLaws.{path-few}
 use Rattle.search.proofs.refused.Goals as goal

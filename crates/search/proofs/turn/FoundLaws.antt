@@ -12,8 +12,6 @@ use Rattle.search.specs.Layout.{SameBut}
 use Rattle.search.specs.Labels.{label_at}
 use Rattle.search.specs.Replies.{read_off}
 use Rattle.search.specs.TurnWork.{FirstAt, Leads, path_in, Found, Read}
-use Rattle.search.specs.declared.PathAnswer.{PathAnswer}
-use Rattle.search.specs.declared.PathAnswer.TheVariants.{Joins}
 
 module _ {n : ℕ} {marks sinks w : List ℕ} {cost : ℕ} (f : Found n marks sinks w cost) {place : ℕ} (first : FirstAt n cost sinks w place) where
   -- the first place is one of the list's, since some place has what is looked for
@@ -35,15 +33,15 @@ module _ {n : ℕ} {marks sinks w : List ℕ} {cost : ℕ} (f : Found n marks si
 
   -- once the path is written and the rest cleared
   pub found_read :
-      {count : ℕ} {w₁ w₂ : List ℕ} {r : PathAnswer} → count ≡ length (path_in n marks w (get_or sinks place 0))
+      {count : ℕ} {w₁ w₂ : List ℕ} → count ≡ length (path_in n marks w (get_or sinks place 0))
       → take count w₁ ≡ path_in n marks w (get_or sinks place 0) → SameBut 0 n w w₁
-      → w₂ ≡ take count w₁ ++ (replicate (3 * n - count) 0 ++ drop (3 * n) w₁) → r ≡ Joins place cost count → Read n marks sinks w cost r w₂
+      → w₂ ≡ take count w₁ ++ (replicate (3 * n - count) 0 ++ drop (3 * n) w₁) → Read n marks sinks w cost (record { place = place; cost = cost; length = count }) w₂
   unfolding read_off
-  found_read {count} {w₁} {w₂} e t s z a =
+  found_read {count} {w₁} {w₂} e t s z =
       record {
         place = place;
         first = first;
         within = found_within;
-        answer = rw e at a;
+        answer = rw e;
         work = z ∙ rw (t, e, drop-same (3 * n) w w₁ s.long (λ j l. s.high j (omega arith)));
       }

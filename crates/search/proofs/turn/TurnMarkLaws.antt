@@ -1,6 +1,6 @@
 -- What the loops before and after the labels keep from turn to turn: the tree's nodes, the goals, the least price of a goal, the first node of a label.
 -- Assumes nothing.
-use mathlib.Core.Bool.{Bool, true, false}
+use mathlib.Core.Bool.{false}
 use mathlib.Core.List.{List, ◌++◌}
 use mathlib.Core.Logic.{⊎_elim, inl, inr}
 use mathlib.Core.Path.{◌≡◌, refl, sym, ◌∙◌, ap}
@@ -13,7 +13,7 @@ use borrow.Author.Tests.{le-leb, lt-leb}
 use Rattle.price.specs.Test.{choose}
 use Rattle.price.specs.Lists.{count_below}
 use Rattle.price.proofs.BelowLaws.{count_same}
-use Rattle.price.proofs.TestLaws.{le_or_lt, true≢false, same_or_not}
+use Rattle.price.proofs.TestLaws.{le_or_lt, same_or_not}
 use Rattle.search.specs.Distance.{far, tree_has}
 use Rattle.search.specs.Paths.{any_price_most}
 use Rattle.search.specs.Labels.{goal, label_at, wait_at, beside_at, put, Waits}
@@ -271,17 +271,14 @@ module _ {n : ℕ} {sinks w w' : List ℕ} {i : ℕ} (s : GoalsMarked n sinks w 
         (s.only v h);
   }
 
-  pub goals_other : (label_at w' (get_or sinks i 0) ≡ far → ⊥) → GoalsMarked n sinks w w' (i + 1)
+  pub goals_other : (get_or sinks i 0 < n → label_at w' (get_or sinks i 0) ≡ far → ⊥) → GoalsMarked n sinks w w' (i + 1)
   goals_other d =
       goals-kept
       (λ h e.
       ⊎_elim
-      (λ (z : label_at w' (get_or sinks i 0) ≡ label_at w (get_or sinks i 0)). absurd (d (z ∙ e)))
+      (λ (z : label_at w' (get_or sinks i 0) ≡ label_at w (get_or sinks i 0)). absurd (d h (z ∙ e)))
       (λ (z : (label_at w (get_or sinks i 0) ≡ far) × (label_at w' (get_or sinks i 0) ≡ goal) × ((j : ℕ) × (j < i) × (get_or sinks j 0 ≡ get_or sinks i 0))). z.1)
       (s.only (get_or sinks i 0) h))
-
-  pub goals-beyond : n ≤ get_or sinks i 0 → GoalsMarked n sinks w w' (i + 1)
-  goals-beyond h = goals-kept (λ l e. absurd (omega arith))
 
   pub goals-all : i ≤ length sinks → length sinks ≤ i → GoalsMarked n sinks w w' (length sinks)
   goals-all a b = let e : i ≡ length sinks = omega arith in rw e at s

@@ -2,20 +2,12 @@
 -- Assumes nothing.
 use mathlib.Core.Path.{sym}
 use Rattle.std.proofs.Common.{rules}
-use borrow.Author.Count.{below_none, below_more}
 use Rattle.job.proofs.FirstNetLaws.{first_found, first_none}
 use Rattle.job.proofs.first_net.first_of.Goals as goal
 
-pub loop-i-init : goal.loop-i-init
-loop-i-init c = (below_none _, search rules)
-
-pub returns-then-source-i : goal.returns-then-source-i
-returns-then-source-i c =
+pub returns-then-from-node : goal.returns-then-from-node
+returns-then-from-node c =
     sym (first_found _ _ _ _ c.source_of-node.ensures (search rules) (search rules) c.loop-i.invariant.0)
-
-pub loop-i-preserved : goal.loop-i-preserved
-loop-i-preserved c =
-    (below_more _ _ c.loop-i.invariant.0 (search rules), search rules)
 
 pub returns : goal.returns
 returns c =

@@ -1,29 +1,22 @@
--- `table_tests::faulty_times` meets its contract: an untimed job has neither table; of a timed one table 9 is tested first, then table 10.
+-- `tables::faulty_times` meets its contract: an untimed job has neither table; of a timed one table 9 is tested first, then table 10.
 -- Assumes nothing.
-use mathlib.Core.Bool.{not}
-use Rattle.std.proofs.Common.{ap}
-use mathlib.Core.Path.{sym}
-use Rattle.search.proofs.KeptLaws.{refused, passed}
-use borrow.Author.Tests.{not-true, not-false}
-use Rattle.job.proofs.NetTableLaws.{times_untimed, times_9, times_10, times_kept}
+use mathlib.Core.Bool.{true, false}
+use mathlib.Core.Path.{sym, ◌∙◌}
+use Rattle.std.proofs.lemmas.Result.{err_from_is_err_and}
+use Rattle.job.proofs.NetTableLaws.{times_9, times_10}
 use Rattle.job.proofs.tables.faulty_times.Goals as goal
 
-pub returns-then-not-terms : goal.returns-then-not-terms
-returns-then-not-terms c = sym (times_untimed _ _ _ _ _ (not-true _ c.if-not-terms.true))
-
-pub returns-then-delays-ge1 : goal.returns-then-delays-ge1
-returns-then-delays-ge1 c =
-    sym (times_9 _ _ _ _ _ (not-false _ c.if-not-terms.false) c.requires
-    c.faulty_with_delays-delays.ensures c.if-delays-ge1.true)
+pub returns-in_err-faulty_with_delays : goal.returns-in_err-faulty_with_delays
+returns-in_err-faulty_with_delays c =
+    let p = err_from_is_err_and c.from_residual.result c.from_residual.ensures.1 in
+    rw (p.1, p.2) (times_9 _ _ _ _ _ c.if-not-job.false c.requires c.in_err-faulty_with_delays.ensures)
 
 pub returns-then-not-criticalities_sound : goal.returns-then-not-criticalities_sound
 returns-then-not-criticalities_sound c =
-    sym (times_10 _ _ _ _ _ (not-false _ c.if-not-terms.false) c.requires
-    c.faulty_with_delays-delays.ensures c.if-delays-ge1.false
-    (refused c.criticalities_sound.ensures (ap not c.if-not-criticalities_sound.true)))
+    times_10 _ _ _ _ _ c.if-not-job.false c.requires false c.in_ok-faulty_with_delays.ensures
+    (sym c.criticalities_sound.ensures ∙ c.if-not-criticalities_sound.true)
 
 pub returns : goal.returns
 returns c =
-    sym (times_kept _ _ _ _ _ (not-false _ c.if-not-terms.false) c.requires
-    c.faulty_with_delays-delays.ensures c.if-delays-ge1.false
-    (passed c.criticalities_sound.ensures (ap not c.if-not-criticalities_sound.false)))
+    times_10 _ _ _ _ _ c.if-not-job.false c.requires true c.in_ok-faulty_with_delays.ensures
+    (sym c.criticalities_sound.ensures ∙ c.if-not-criticalities_sound.false)

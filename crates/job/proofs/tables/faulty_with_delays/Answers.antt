@@ -1,24 +1,14 @@
--- `table_tests::faulty_with_delays` meets its contract: with no sinks and one entry of work memory the cheapest path is refused, and names the faulty table where one is.
+-- `tables::faulty_with_delays` meets its contract: with no sinks and one entry of work memory the cheapest path is refused, and names the
+-- faulty table where one is.
 -- Assumes nothing.
-use mathlib.Core.List.{[], ◌∷◌}
-use mathlib.Core.Path.{refl}
-use Rattle.job.proofs.NetTableLaws.{named}
+use Rattle.job.proofs.NetTableLaws.{named_table_refused, named_no_table, named_none}
 use Rattle.job.proofs.tables.faulty_with_delays.Goals as goal
 
 pub returns-in-BadTable : goal.returns-in-BadTable
-returns-in-BadTable c = named _ _ _ _ _ _ _ (0 ∷ []) refl _ c.cheapest_path.ensures.answers c.in-BadTable.is
+returns-in-BadTable c = named_table_refused _ _ _ c.in-BadTable.is c.in-Err.ensures.answers
 
-pub returns-in-ShortWork : goal.returns-in-ShortWork
-returns-in-ShortWork c = named _ _ _ _ _ _ _ (0 ∷ []) refl _ c.cheapest_path.ensures.answers c.in-ShortWork.is
+pub returns-in_default-refusal : goal.returns-in_default-refusal
+returns-in_default-refusal c = named_no_table _ _ _ c.in-Err.refusal c.in_default-refusal.not-BadTable c.in-Err.ensures.answers
 
-pub returns-in-BadNumber : goal.returns-in-BadNumber
-returns-in-BadNumber c = named _ _ _ _ _ _ _ (0 ∷ []) refl _ c.cheapest_path.ensures.answers c.in-BadNumber.is
-
-pub returns-in-TooLarge : goal.returns-in-TooLarge
-returns-in-TooLarge c = named _ _ _ _ _ _ _ (0 ∷ []) refl _ c.cheapest_path.ensures.answers c.in-TooLarge.is
-
-pub returns-in-Stuck : goal.returns-in-Stuck
-returns-in-Stuck c = named _ _ _ _ _ _ _ (0 ∷ []) refl _ c.cheapest_path.ensures.answers c.in-Stuck.is
-
-pub returns-in-Joins : goal.returns-in-Joins
-returns-in-Joins c = named _ _ _ _ _ _ _ (0 ∷ []) refl _ c.cheapest_path.ensures.answers c.in-Joins.is
+pub returns-in_default : goal.returns-in_default
+returns-in_default c = named_none _ _ _ c.in_default.field-0 c.in_default.ensures.answers

@@ -1,4 +1,4 @@
--- `table_tests::net_sound` meets its contract: marks of the source alone say which sinks are sound, and the marks that were set are cleared.
+-- `tables::net_sound` meets its contract: marks of the source alone say which sinks are sound, and the marks that were set are cleared.
 -- Assumes nothing.
 use mathlib.Core.Bool.{not}
 use Rattle.std.proofs.Common.{ap}
@@ -10,10 +10,6 @@ use Rattle.price.proofs.TestLaws.{true≢false}
 use Rattle.search.proofs.KeptLaws.{refused, passed}
 use Rattle.job.proofs.SinkMarkLaws.{free_source, free-below, unmarked_again}
 use Rattle.job.proofs.tables.net_sound.Goals as goal
-
-pub shape_of-seen-then-not-mark_sinks : goal.shape_of-seen-then-not-mark_sinks
-shape_of-seen-then-not-mark_sinks c =
-    c.mark_sinks.auto.seen ∙ length-set c.args.seen.now c.args.from 1
 
 pub returns-then-not-mark_sinks : goal.returns-then-not-mark_sinks
 returns-then-not-mark_sinks c =
@@ -27,17 +23,6 @@ pub unmark_sinks-requires : goal.unmark_sinks-requires
 unmark_sinks-requires c = λ i l.
     let free = passed c.mark_sinks.ensures.value (ap not c.if-not-mark_sinks.false) in
     omega (arith, free-below _ c.args.sinks.now _ free i l, c.mark_sinks.auto.seen, length-set c.args.seen.now c.args.from 1)
-
-pub bounds-seen-s-2 : goal.bounds-seen-s-2
-bounds-seen-s-2 c =
-    omega (arith, c.requires.n_in_bounds, c.unmark_sinks.auto.seen, c.mark_sinks.auto.seen, length-set c.args.seen.now c.args.from 1)
-
-pub shape_of-seen : goal.shape_of-seen
-shape_of-seen c =
-    length-set c.unmark_sinks.new.seen c.args.from 0
-    ∙ c.unmark_sinks.auto.seen
-    ∙ c.mark_sinks.auto.seen
-    ∙ length-set c.args.seen.now c.args.from 1
 
 pub returns : goal.returns
 returns c =

@@ -1,4 +1,4 @@
--- `table_tests::sinks_sound` meets its contract. The loop's invariant: every net passed keeps the rule, and no mark is left.
+-- `tables::sinks_sound` meets its contract. The loop's invariant: every net passed keeps the rule, and no mark is left.
 -- Assumes nothing.
 use mathlib.Core.Bool.{not}
 use Rattle.std.proofs.Common.{ap}
@@ -7,35 +7,17 @@ use Prim.Native.Nat.{◌+◌}
 use native.Mathlib.Omega.{arith}
 use Rattle.search.proofs.KeptLaws.{refused, passed}
 use Rattle.job.proofs.JobLaws.{source-below, firsts-long, firsts-order, firsts-most}
-use Rattle.job.proofs.NetTableLaws.{passing-none, passing-more, net-answer, nets_many, nets_bad, nets-all}
+use Rattle.job.proofs.NetTableLaws.{passing-none, passing-more, net-answer, nets_bad, nets-all}
 use Rattle.job.proofs.tables.sinks_sound.Goals as goal
-
-pub returns-then-sink-gt-SINKS_MOST : goal.returns-then-sink-gt-SINKS_MOST
-returns-then-sink-gt-SINKS_MOST c = sym (nets_many _ _ _ _ (omega arith))
 
 pub loop-i-init : goal.loop-i-init
 loop-i-init c = passing-none _ _ _ _
 
-pub offset_bounds-first_sink-i : goal.offset_bounds-first_sink-i
-offset_bounds-first_sink-i c = omega (arith, firsts-long _ _ _ c.requires.first_sink_value)
-
 pub bounds-first_sink-i : goal.bounds-first_sink-i
 bounds-first_sink-i c = omega (arith, firsts-long _ _ _ c.requires.first_sink_value)
 
-pub overflow_cast-from : goal.overflow_cast-from
-overflow_cast-from c = omega (arith, c.type_inv.first_sink c.loop-i.i)
-
-pub offset_bounds-first_sink-i-in-loop-i : goal.offset_bounds-first_sink-i-in-loop-i
-offset_bounds-first_sink-i-in-loop-i c = omega (arith, firsts-long _ _ _ c.requires.first_sink_value)
-
 pub bounds-first_sink-i-in-loop-i : goal.bounds-first_sink-i-in-loop-i
 bounds-first_sink-i-in-loop-i c = omega (arith, firsts-long _ _ _ c.requires.first_sink_value)
-
-pub overflow_cast-to : goal.overflow_cast-to
-overflow_cast-to c = omega (arith, c.type_inv.first_sink (c.loop-i.i + 1))
-
-pub offset_bounds-sink-from : goal.offset_bounds-sink-from
-offset_bounds-sink-from c = omega (arith, firsts-most _ _ _ c.requires.first_sink_value c.loop-i.i (omega arith))
 
 pub slice_bounds-net_sound-count : goal.slice_bounds-net_sound-count
 slice_bounds-net_sound-count c = omega (arith, firsts-order _ _ _ c.requires.first_sink_value c.loop-i.i (omega arith))
@@ -45,9 +27,6 @@ slice_bounds-net_sound-start c = omega (arith, firsts-order _ _ _ c.requires.fir
 
 pub slice_bounds-net_sound-end : goal.slice_bounds-net_sound-end
 slice_bounds-net_sound-end c = firsts-most _ _ _ c.requires.first_sink_value (c.loop-i.i + 1) (omega arith)
-
-pub slice_bounds-net_sound-end-in-loop-i : goal.slice_bounds-net_sound-end-in-loop-i
-slice_bounds-net_sound-end-in-loop-i c = sym c.loop-i.invariant.long
 
 pub net_sound-requires : goal.net_sound-requires
 net_sound-requires c = record { n_in_bounds = (omega (arith, c.loop-i.invariant.long, c.requires.n_le_nodes_most), source-below _ _ c.requires.source_value c.loop-i.i (omega arith)); by_index = c.loop-i.invariant.unmarked }

@@ -1,12 +1,7 @@
--- `table_tests::sinks_sound` meets its contract. The loop's invariant: every net passed keeps the rule, and no mark is left.
+-- `tables::sinks_sound` meets its contract. The loop's invariant: every net passed keeps the rule, and no mark is left.
 -- Assumes nothing.
-use Prim.Native.Nat.{◌-◌}
-use lib.ListN.{length}
 use Rattle.job.proofs.NetTableLaws.{Passing}
 use Rattle.job.proofs.tables.sinks_sound.Given as goal
 
 abbrev pub invariant-loop-i : goal.invariant-loop-i
 invariant-loop-i l = Passing l.n l.source l.first_sink l.sink l.seen l.i
-
-abbrev pub decreases-loop-i : goal.decreases-loop-i
-decreases-loop-i l = length l.source - l.i

@@ -4,20 +4,10 @@ use mathlib.Core.Path.{◌≡◌, ◌∙◌}
 use native.Mathlib.Omega.{arith}
 use Rattle.search.specs.Distance.{far}
 use Rattle.search.specs.Layout.{estimate_at}
-use Rattle.search.proofs.aim.ShortenLaws.{same-estimate, shortened_lacks, shortened_waits}
-use Rattle.search.proofs.aim.BestLaws.{best_other, best_sink, low_other, low_lacks}
+use Rattle.search.proofs.aim.ShortenLaws.{same-estimate, shortened_waits}
+use Rattle.search.proofs.aim.BestLaws.{best_other, best_sink, low_other}
 use Rattle.search.proofs.aim.shorten.Goals.{Else-estimate}
 use Rattle.search.proofs.aim.shorten.Goals as goal
-
-pub returns-then-estimate : goal.returns-then-estimate
-returns-then-estimate c =
-    let a = c.args in
-    let h = c.requires.u_lt_n.1 in
-    let room = c.requires.u_lt_n.2 in
-    let none = c.if-estimate.true in
-    let same = same-estimate a.n a.u a.v a.d a.work.now h room in
-    let t = shortened_lacks a.n a.u a.v a.d a.work.now h room c.requires.u_lt_n.3 none in
-    (t, λ s. best_other h t s c.requires.u_lt_n.5 (λ z. omega arith), λ s. low_lacks h t s c.requires.u_lt_n.4 c.min.ensures)
 
 -- the node has an estimate
 known : (c : Else-estimate) → estimate_at c.args.n c.args.work.now c.args.v ≡ far → ⊥

@@ -3,7 +3,7 @@
 -- Assumes nothing.
 use mathlib.Core.List.{List}
 use mathlib.Core.Logic.{◌⊎◌, inl, inr}
-use mathlib.Core.Path.{◌≡◌, refl, sym}
+use mathlib.Core.Path.{◌≡◌, refl}
 use Prim.Native.Nat.{ℕ, ◌+◌, ◌≤◌}
 use native.Mathlib.Omega.{arith}
 use lib.ListN.{length, get_or-replicate}
@@ -12,7 +12,7 @@ use Rattle.search.specs.Turn.{weighed_congestion}
 use Rattle.search.specs.Layout.{entry_at}
 use Rattle.search.specs.Buckets.{LowestFrom}
 use Rattle.search.proofs.aimed_turn.AimStart.{started_sized, started_queue, started_lacking, started_out}
-use Rattle.search.proofs.aimed_turn.AimRun.{TurnOver, Turning, turn-begins, turn-long, turn_count_lem, turn_low, turn-heads, level-ready, turn_raised, turn-ends, expands-ready, turn-expands, same_blanks, spreads-ready, turn-spreads, spreading_falls, falls_expanding, falls_spreading}
+use Rattle.search.proofs.aimed_turn.AimRun.{TurnOver, Turning, turn-begins, turn-long, turn_count_lem, turn_low, level-ready, turn_raised, turn-ends, expands-ready, turn-expands, same_blanks, spreads-ready, turn-spreads, spreading_falls, falls_expanding, falls_spreading}
 use Rattle.search.proofs.aimed_turn.run.Goals.{After-done, At-loop-f, Joined-f-gt0, then-f-gt0, else-f-gt0}
 use Rattle.search.proofs.aimed_turn.run.Goals as goal
 
@@ -75,44 +75,16 @@ give_sinks-f-requires c =
       started_out st,
     )
 
-pub loop-f-init : goal.loop-f-init
-loop-f-init c = λ w o s. s
-
-pub slice_bounds-lowest-end : goal.slice_bounds-lowest-end
-slice_bounds-lowest-end c =
-    let at = goal.at.slice_bounds-lowest-end c in
-    sym (turn-heads (state at.At-loop-f))
-
 pub lowest-level-requires : goal.lowest-level-requires
 lowest-level-requires c =
     let at = goal.at.lowest-level-requires c in
     level-ready (state at.At-loop-f) c.if-f-gt0.true
-
-pub overflow_add-least : goal.overflow_add-least
-overflow_add-least c =
-    let at = goal.at.overflow_add-least c in
-    let l = turn-long (state at.At-loop-f) in omega arith
-
-pub offset_bounds-work-n : goal.offset_bounds-work-n
-offset_bounds-work-n c =
-    let at = goal.at.offset_bounds-work-n c in
-    let l = turn-long (state at.At-loop-f) in omega arith
-
-pub bounds-work-n : goal.bounds-work-n
-bounds-work-n c =
-    let at = goal.at.bounds-work-n c in
-    let l = turn-long (state at.At-loop-f) in omega arith
 
 pub least_lacking-coming-requires : goal.least_lacking-coming-requires
 least_lacking-coming-requires c =
     let at = goal.at.least_lacking-coming-requires c in
     let raised = turn_raised (state at.At-loop-f) (rise at.Joined-f-gt0) in
     turn_low raised.turning
-
-pub shape_of-work-then-done : goal.shape_of-work-then-done
-shape_of-work-then-done c =
-    let at = goal.at.shape_of-work-then-done c in
-    (turn-long (state at.At-loop-f)).0
 
 pub returns-then-done : goal.returns-then-done
 returns-then-done c =
@@ -149,11 +121,6 @@ loop-f-smaller-then-least-coming c =
     (same_blanks raised.turning c.least_lacking-coming.ensures (top at.After-done) (c.done.ensures.goes c.if-done.false) c.if-least-coming.true
     c.expand_next-r.ensures.0)
 
-pub slice_bounds-spread_next-end : goal.slice_bounds-spread_next-end
-slice_bounds-spread_next-end c =
-    let at = goal.at.slice_bounds-spread_next-end c in
-    sym (turn-heads (state at.At-loop-f))
-
 pub spread_next-f-requires : goal.spread_next-f-requires
 spread_next-f-requires c =
     let at = goal.at.spread_next-f-requires c in
@@ -171,12 +138,3 @@ loop-f-smaller c =
     let at = goal.at.loop-f-smaller c in
     let raised = turn_raised (state at.At-loop-f) (rise at.Joined-f-gt0) in
     falls_spreading (length c.args.tables.now.kind.now) c.loop-f.expanded (spreading_falls raised.turning c.spread_next-f.ensures.0)
-
-pub scale_of-scale-requires : goal.scale_of-scale-requires
-scale_of-scale-requires c = tt
-
-pub slice_bounds-give_sinks-end : goal.slice_bounds-give_sinks-end
-slice_bounds-give_sinks-end c = refl
-
-pub done-requires : goal.done-requires
-done-requires c = tt

@@ -1,17 +1,8 @@
 -- `search::buckets::lowest` meets its contract. The invariant: no node waits from `from` to below the level. The measure is how far a round of buckets from `from` is still to go.
 -- Assumes nothing.
 use native.Mathlib.Omega.{arith}
-use Rattle.search.proofs.BucketLaws.{none_begin, none_more, none-room, lowest-here}
+use Rattle.search.proofs.BucketLaws.{none-room, lowest-here}
 use Rattle.search.proofs.buckets.lowest.Goals as goal
-
-pub loop-level-init : goal.loop-level-init
-loop-level-init c = none_begin _ _
-
-pub offset_bounds-head-level : goal.offset_bounds-head-level
-offset_bounds-head-level c = omega arith
-
-pub bounds-head-level : goal.bounds-head-level
-bounds-head-level c = omega (arith, c.requires.0)
 
 pub overflow_add-level : goal.overflow_add-level
 overflow_add-level c =
@@ -24,9 +15,6 @@ loop-level-smaller c =
     let room = none-room c.loop-level.invariant c.requires.2 in
     let from = c.loop-level.invariant.least in
     omega arith
-
-pub loop-level-preserved : goal.loop-level-preserved
-loop-level-preserved c = none_more c.loop-level.invariant c.loop-level-test.true
 
 pub returns : goal.returns
 returns c = lowest-here c.loop-level.invariant c.requires.2 c.loop-level-test.false

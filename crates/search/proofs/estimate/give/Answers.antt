@@ -1,11 +1,10 @@
 -- `search::estimate::give` meets its contract.
 -- Assumes nothing.
-use mathlib.Core.Path.{◌≡◌, sym, ◌∙◌}
+use mathlib.Core.Path.{◌≡◌}
 use Prim.Native.Nat.{◌*◌}
-use native.Mathlib.Omega.{arith}
-use lib.ListN.{length, length-set}
+use lib.ListN.{length}
 use Rattle.search.specs.Layout.{dist_at, Tournament}
-use Rattle.search.proofs.estimate.GiveLaws.{key_small, key_fits, noted_long, noted_dist, noted_queue, gave_far, gave_tree, gave_near}
+use Rattle.search.proofs.estimate.GiveLaws.{noted_long, noted_dist, noted_queue, gave_far, gave_tree, gave_near}
 use Rattle.search.proofs.estimate.give.Goals.{After-wait_to_spread-count}
 use Rattle.search.proofs.estimate.give.Goals as goal
 

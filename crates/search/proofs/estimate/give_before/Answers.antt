@@ -32,12 +32,6 @@ pub loop-e-init : goal.loop-e-init
 loop-e-init c =
     (λ l. row_begin c.requires.1.queue c.row_place-e.ensures, c.requires.1.lacking_is)
 
-pub bounds-work-n : goal.bounds-work-n
-bounds-work-n c =
-    let r = room (goal.at.bounds-work-n c).At-loop-e in
-    let h = c.if-u-n.true in
-    omega arith
-
 pub give-f-requires : goal.give-f-requires
 give-f-requires c =
     let h = c.if-u-n.true in

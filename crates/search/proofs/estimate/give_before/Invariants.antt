@@ -1,7 +1,6 @@
 -- `search::estimate::give_before` meets its contract. The invariant: the places of v's row below e have been passed.
 -- Assumes nothing.
 use mathlib.Core.Path.{◌≡◌}
-use Prim.Native.Nat.{◌-◌}
 use lib.ListN.{length}
 use Rattle.search.specs.Block.{graph_of}
 use Rattle.search.specs.Clamped.{clamped_base}

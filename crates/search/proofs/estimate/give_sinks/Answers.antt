@@ -23,12 +23,6 @@ loop-sink-init c =
     let pre = c.requires in
     (λ sources. rw pre.9 (sinks-none pre.6 pre.5 pre.7 pre.8), pre.10)
 
-pub bounds-work-n : goal.bounds-work-n
-bounds-work-n c =
-    let r = room (goal.at.bounds-work-n c).At-loop-sink in
-    let h = c.if-s-n.true in
-    omega arith
-
 pub give-f-requires : goal.give-f-requires
 give-f-requires c =
     let h = c.if-s-n.true in
@@ -71,12 +65,6 @@ loop-sink-preserved c =
             inv.1,
           )
     ]
-
-pub shape_of-work : goal.shape_of-work
-shape_of-work c = (c.loop-sink.invariant.0 []).same.long
-
-pub shape_of-head : goal.shape_of-head
-shape_of-head c = (c.loop-sink.invariant.0 []).lined.waiting.heads ∙ sym c.requires.7
 
 pub returns : goal.returns
 returns c = (λ sources. sinks-all (c.loop-sink.invariant.0 sources) c.loop-sink-test.false, c.loop-sink.invariant.1)

@@ -2,9 +2,8 @@
 -- Assumes nothing.
 use mathlib.Core.Logic.{inl}
 use mathlib.Core.Path.{refl}
-use native.Mathlib.Omega.{arith}
 use Rattle.search.specs.Estimates.{no_edge}
-use Rattle.search.proofs.estimate.GiveLaws.{base-small, lined_up}
+use Rattle.search.proofs.estimate.GiveLaws.{lined_up}
 use Rattle.search.proofs.estimate.wait_to_spread.Goals as goal
 
 pub returns-then-back-u : goal.returns-then-back-u

@@ -1,6 +1,6 @@
 -- `numbers::bad_node` meets its contract. The loop's invariant: every node passed is sound.
 -- Assumes nothing.
-use mathlib.Core.Path.{refl, sym, ◌∙◌}
+use mathlib.Core.Path.{refl, sym}
 use Rattle.std.proofs.Common.{rules}
 use Rattle.search.proofs.PriceableLaws.{bad_here, bad_nowhere}
 use Rattle.search.proofs.numbers.bad_node.Goals as goal

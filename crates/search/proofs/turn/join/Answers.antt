@@ -1,12 +1,7 @@
 -- `search::turn::join` meets its contract: tree and goals are marked, the labels spread until they stop, and the path is read off.
 -- Assumes nothing.
 use mathlib.Core.Bool.{true}
-use native.Mathlib.Omega.{arith}
-use lib.ListN.{length}
-use Prim.Native.Nat.{◌≤◌}
-use Rattle.search.specs.Block.{graph_of}
-use Rattle.search.specs.Turn.{weighed_congestion}
-use Rattle.search.specs.Clamped.{clamped_price}
+use Rattle.search.specs.Lent.{graph_in, price_read}
 use Rattle.search.proofs.JoinLaws.{fitted-lent, fitted-room, tree-room, goals-room, run_room, join_ready, join_halts, join_stuck, join_joins}
 use Rattle.search.proofs.HaltLaws.{Halted, halted_found}
 use Rattle.search.proofs.turn.join.Goals.{After-settle_all-cost}
@@ -33,26 +28,19 @@ settle_all-cost-requires c =
 -- the labels have stopped spreading
 module _ (c : After-settle_all-cost) where
   halts :
-      Halted (graph_of c.args.kind.now c.args.first_edge.now c.args.edge_target.now)
-      (clamped_price c.args.kind.now c.args.capacity.now
-      (weighed_congestion c.args.weighting c.args.delay.now c.args.factor c.args.history.now c.args.others.now))
+      Halted (graph_in c.args.tables.now) (price_read c.args.tables.now c.args.prices.now)
       c.args.in_tree.now c.args.sinks.now c.args.work.now c.settle_all-cost.new.work c.settle_all-cost.result
   halts =
       join_halts _ _ _ _ _ c.requires c.mark_tree-waits.ensures c.mark_goals.ensures c.least_price-last_step.ensures true
       c.settle_all-cost.ensures
 
-pub overflow_mul-n : goal.overflow_mul-n
-overflow_mul-n c =
-    let few : length c.args.kind.now ≤ 4096 = c.requires.few in
-    omega arith
-
-pub clear-requires : goal.clear-requires
-clear-requires c =
+pub fill-requires : goal.fill-requires
+fill-requires c =
     run_room _ _ _ _ c.requires c.mark_tree-waits.ensures c.mark_goals.ensures c.settle_all-cost.ensures
 
 pub returns-then-cost : goal.returns-then-cost
 returns-then-cost c =
-    join_stuck _ _ _ _ _ (halts (goal.at.returns-then-cost c).After-settle_all-cost) c.if-cost.true c.clear.ensures
+    join_stuck _ _ _ _ _ (halts (goal.at.returns-then-cost c).After-settle_all-cost) c.if-cost.true c.fill.ensures
 
 pub read_path-requires : goal.read_path-requires
 read_path-requires c =

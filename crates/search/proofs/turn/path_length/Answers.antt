@@ -7,20 +7,8 @@ use Rattle.search.proofs.turn.path_length.Goals as goal
 pub loop-v-init : goal.loop-v-init
 loop-v-init c = follow_none _ _ _ _ c.requires.0
 
-pub bounds-in_tree-v : goal.bounds-in_tree-v
-bounds-in_tree-v c = let o = c.loop-v.invariant.on.node in let m = c.requires.1.marks_long in omega arith
-
-pub overflow_add-v : goal.overflow_add-v
-overflow_add-v c = let o = c.loop-v.invariant.on.node in let f = c.requires.1.few in omega arith
-
-pub offset_bounds-work-n : goal.offset_bounds-work-n
-offset_bounds-work-n c = let o = c.loop-v.invariant.on.node in let f = c.requires.1.few in omega arith
-
-pub bounds-work-n : goal.bounds-work-n
-bounds-work-n c = let o = c.loop-v.invariant.on.node in let l = c.requires.1.long in omega arith
-
 pub overflow_add-count : goal.overflow_add-count
-overflow_add-count c = let f = c.requires.1.few in let m = follow_few (follow_on c.requires.1 c.loop-v-test.true c.loop-v.invariant) in omega arith
+overflow_add-count c = let f = c.requires.1.few in omega (arith, follow_few (follow_on c.requires.1 c.loop-v-test.true c.loop-v.invariant))
 
 pub loop-v-smaller : goal.loop-v-smaller
 loop-v-smaller c = follow_nearer c.requires.1 c.loop-v-test.true c.loop-v.invariant

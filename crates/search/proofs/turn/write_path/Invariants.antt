@@ -1,4 +1,4 @@
--- `search::turn::write_path` meets its contract. The invariant: the end of the path stands at the places from i on, and v comes before it. The measure is i.
+-- `search::turn::write_path` meets its contract. The invariant: the end of the path stands at the places from i on, and v comes before it.
 -- Assumes nothing.
 use Rattle.search.proofs.turn.FollowLaws.{Writing}
 use Rattle.search.proofs.turn.write_path.Given as goal
