@@ -22,8 +22,8 @@ use Rattle.price.proofs.TestLaws.{both_left, both_right, le_or_lt, true≢false}
 use Rattle.text.specs.Decimal.{is_digit}
 use Rattle.text.specs.Lines.{lf, comma, Field, number, fault, digits_after, field, Fields, taken, malformed, with_value, after_field, fields, begins}
 use Rattle.text.specs.Steps.{comma_field, After, field_at, FieldPlace}
-use Rattle.core.specs.declared.option.Option.{Option}
-use Rattle.core.specs.declared.option.Option.TheVariants.{Some, None}
+use Rattle.std.specs.Prelude.{Option}
+use Rattle.std.specs.Prelude.{Some, None}
 use Rattle.text.specs.declared.fields.Field as field_type
 
 -- ---- the byte at a place

@@ -17,8 +17,8 @@ use Rattle.price.proofs.TestLaws.{by_test, true≢false}
 use Rattle.text.specs.Lines.{Fields, taken, malformed, fields, line, begins}
 use Rattle.text.specs.JobText.{Reading, values, refused, judged, Part, onward, taking}
 use Rattle.text.specs.Steps.{After, fields_at, FieldsPlace}
-use Rattle.core.specs.declared.option.Option.{Option}
-use Rattle.core.specs.declared.option.Option.TheVariants.{Some, None}
+use Rattle.std.specs.Prelude.{Option}
+use Rattle.std.specs.Prelude.{Some, None}
 use Rattle.text.specs.declared.fields.LineFields.{LineFields}
 
 -- ---- a line at a place of the text

@@ -26,10 +26,10 @@ use Rattle.job.specs.Tables.{sink_kind}
 use Rattle.text.specs.Lines.{letter_s, letter_t, taken, line}
 use Rattle.text.specs.JobText.{Reading, values, refused, pin_within, source_line, sink_ordered, sink_within, sink_line, taking, of_kind}
 use Rattle.text.specs.Steps.{row, After, fields_at, three_of, pin_at, PinPlace, sink_at, SinkPlace, Marked}
-use Rattle.core.specs.declared.option.Option.{Option}
-use Rattle.core.specs.declared.option.Option.TheVariants.{Some, None}
-use Rattle.core.specs.declared.result.Result.{Result}
-use Rattle.core.specs.declared.result.Result.TheVariants.{Ok, Err}
+use Rattle.std.specs.Prelude.{Option}
+use Rattle.std.specs.Prelude.{Some, None}
+use Rattle.std.specs.Prelude.{Result}
+use Rattle.std.specs.Prelude.{Ok, Err}
 use Rattle.text.specs.declared.fields.LineFields.{LineFields}
 use Rattle.text.specs.declared.place.LineFault.{LineFault}
 use Rattle.text.specs.declared.nets.Pin.{Pin}

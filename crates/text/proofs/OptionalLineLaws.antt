@@ -14,11 +14,11 @@ use Rattle.job.specs.declared.Terms.{Terms}
 use Rattle.text.specs.Lines.{letter_v, begins, Fields, taken, malformed, line}
 use Rattle.text.specs.JobText.{judged, rule_fields, Part, part, stopped, and_then, optional}
 use Rattle.text.specs.Steps.{row, Within, Shaped, terms_at, TermsPlace}
-use Rattle.core.specs.Result.{IsErrAnd}
-use Rattle.core.specs.declared.option.Option.{Option}
-use Rattle.core.specs.declared.option.Option.TheVariants.{Some, None}
-use Rattle.core.specs.declared.result.Result.{Result}
-use Rattle.core.specs.declared.result.Result.TheVariants.{Ok, Err}
+use Rattle.std.specs.Result.{IsErrAnd}
+use Rattle.std.specs.Prelude.{Option}
+use Rattle.std.specs.Prelude.{Some, None}
+use Rattle.std.specs.Prelude.{Result}
+use Rattle.std.specs.Prelude.{Ok, Err}
 use Rattle.text.specs.declared.fields.LineFields.{LineFields}
 use Rattle.text.specs.declared.place.Place.{Place}
 use Rattle.text.specs.declared.place.LineRefusal.{LineRefusal}

@@ -18,12 +18,12 @@ use Rattle.job.specs.declared.Terms.{Terms}
 use Rattle.text.specs.JobText.{read_text}
 use Rattle.text.specs.ReadReplies.{Tables, ReadReply, not_read, refusal_numbers, lowest_short, short_times, short_untimed, short_table, written_over, tables_with, terms_numbers, job_numbers, stored_reply, read_reply}
 use Rattle.text.specs.Steps.{row}
-use Rattle.core.specs.Option.{option_or}
-use Rattle.core.specs.declared.option.Option.{Option}
-use Rattle.core.specs.declared.option.Option.TheVariants.{Some, None}
+use Rattle.std.specs.Option.{option_or}
+use Rattle.std.specs.Prelude.{Option}
+use Rattle.std.specs.Prelude.{Some, None}
 use Rattle.text.specs.ReadSteps.{table_number, Named, lowest_of_nine, RoomForAll, CountsWithin, job_taken, job_at, JobPlace, at_line, line_refusal, Over}
-use Rattle.core.specs.declared.result.Result.{Result}
-use Rattle.core.specs.declared.result.Result.TheVariants.{Ok, Err}
+use Rattle.std.specs.Prelude.{Result}
+use Rattle.std.specs.Prelude.{Ok, Err}
 use Rattle.text.specs.declared.JobCounts.{JobCounts}
 use Rattle.text.specs.declared.place.LineRefusal.{LineRefusal}
 use Rattle.text.specs.declared.place.LineFault.{LineFault}

@@ -24,10 +24,10 @@ use Rattle.text.specs.Lines.{letter_e, taken, line}
 use Rattle.text.specs.JobText.{values, refused, last_of, rises, edge_within, edge_ordered, edge_line, part, stopped, edge_lists, edge_lines, first_places}
 use Rattle.text.specs.Steps as steps
 use Rattle.text.specs.Steps.{After, fields_at, edge_at, EdgePlace, edge_tables}
-use Rattle.core.specs.declared.option.Option.{Option}
-use Rattle.core.specs.declared.option.Option.TheVariants.{Some, None}
-use Rattle.core.specs.declared.result.Result.{Result}
-use Rattle.core.specs.declared.result.Result.TheVariants.{Ok, Err}
+use Rattle.std.specs.Prelude.{Option}
+use Rattle.std.specs.Prelude.{Some, None}
+use Rattle.std.specs.Prelude.{Result}
+use Rattle.std.specs.Prelude.{Ok, Err}
 use Rattle.text.specs.declared.fields.LineFields.{LineFields}
 use Rattle.text.specs.declared.place.LineFault.{LineFault}
 use Rattle.text.specs.declared.edges.Edge.{Edge}

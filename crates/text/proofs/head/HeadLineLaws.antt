@@ -20,10 +20,10 @@ use Rattle.text.specs.Lines.{letter_f, line}
 use Rattle.text.specs.JobText.{values, refused, part, stopped, between, head_within, head_line, terms_part, counts_of, head_part}
 use Rattle.text.specs.Steps.{row, fields_at, head_at, HeadPlace, terms_at}
 use Rattle.text.specs.ReadSteps.{CountsWithin}
-use Rattle.core.specs.declared.option.Option.{Option}
-use Rattle.core.specs.declared.option.Option.TheVariants.{Some, None}
-use Rattle.core.specs.declared.result.Result.{Result}
-use Rattle.core.specs.declared.result.Result.TheVariants.{Ok, Err}
+use Rattle.std.specs.Prelude.{Option}
+use Rattle.std.specs.Prelude.{Some, None}
+use Rattle.std.specs.Prelude.{Result}
+use Rattle.std.specs.Prelude.{Ok, Err}
 use Rattle.text.specs.declared.fields.LineFields.{LineFields}
 use Rattle.text.specs.declared.place.LineFault.{LineFault}
 use Rattle.text.specs.declared.place.LineRefusal.{LineRefusal}

@@ -17,8 +17,8 @@ use Rattle.search.specs.Replies.{sinks_most}
 use Rattle.text.specs.JobText.{values, refused, Part, part, stopped, NetLists, net_lists, complete, net_end, net_line, net_lines}
 use Rattle.text.specs.Steps.{row, nets_at, NetKept, net_line_at, KeptAfter}
 use Rattle.text.specs.declared.nets.NetCursor.{NetCursor}
-use Rattle.core.specs.declared.result.Result.{Result}
-use Rattle.core.specs.declared.result.Result.TheVariants.{Ok, Err}
+use Rattle.std.specs.Prelude.{Result}
+use Rattle.std.specs.Prelude.{Ok, Err}
 use Rattle.text.specs.declared.place.LineFault.{LineFault}
 use Rattle.text.proofs.nets.NetStepLaws.{some_left, sources_now, sinks_now_lem}
 

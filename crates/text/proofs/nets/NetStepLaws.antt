@@ -25,8 +25,8 @@ use Rattle.job.specs.Tables.{source_kind, sink_kind}
 use Rattle.text.specs.JobText.{Reading, values, refused, NetLists, last_of, sinks_now, source_due, sink_due, with_source, with_sink, taking, source_line, sink_line, of_kind, next_source, next_sink, net_line}
 use Rattle.text.specs.Steps.{three_of, Marked, nets_at, NetKept, SourceAdded, SinkAdded, net_line_at, KeptAfter}
 use Rattle.text.specs.declared.nets.NetCursor.{NetCursor}
-use Rattle.core.specs.declared.result.Result.{Result}
-use Rattle.core.specs.declared.result.Result.TheVariants.{Ok, Err}
+use Rattle.std.specs.Prelude.{Result}
+use Rattle.std.specs.Prelude.{Ok, Err}
 use Rattle.text.specs.declared.place.LineFault.{LineFault}
 use Rattle.text.proofs.NetLineLaws.{three_of_kind, sink-few}
 use Rattle.text.proofs.JudgedLaws.{taking-taking}

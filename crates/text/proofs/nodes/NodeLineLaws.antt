@@ -16,10 +16,10 @@ use Rattle.price.specs.Test.{choose}
 use Rattle.text.specs.Lines.{letter_n, taken, line}
 use Rattle.text.specs.JobText.{values, refused, node_within, node_line, taking, part, stopped, onward, node_lists, with_node, node_lines}
 use Rattle.text.specs.Steps.{row, After, fields_at, four_of, node_at, NodePlace}
-use Rattle.core.specs.declared.option.Option.{Option}
-use Rattle.core.specs.declared.option.Option.TheVariants.{Some, None}
-use Rattle.core.specs.declared.result.Result.{Result}
-use Rattle.core.specs.declared.result.Result.TheVariants.{Ok, Err}
+use Rattle.std.specs.Prelude.{Option}
+use Rattle.std.specs.Prelude.{Some, None}
+use Rattle.std.specs.Prelude.{Result}
+use Rattle.std.specs.Prelude.{Ok, Err}
 use Rattle.text.specs.declared.fields.LineFields.{LineFields}
 use Rattle.text.specs.declared.place.LineFault.{LineFault}
 use Rattle.text.specs.declared.nodes.Node.{Node}

@@ -15,8 +15,8 @@ use Rattle.text.specs.JobText.{Part, part, stopped, and_then, Counts, head_part,
 use Rattle.text.specs.ReadReplies.{Tables}
 use Rattle.text.specs.Steps.{row, Within, edge_tables, edges_at, nodes_at, LinesPlace, nets_read_at, NetsEnd}
 use Rattle.text.specs.ReadSteps.{with_nets, nets_after, body_after_nodes, edges_nets_at, with_wires, wires_after, body_after_head, body_at, job_at, CountsWithin, head_read_at, HeadReadPlace}
-use Rattle.core.specs.declared.result.Result.{Result}
-use Rattle.core.specs.declared.result.Result.TheVariants.{Ok, Err}
+use Rattle.std.specs.Prelude.{Result}
+use Rattle.std.specs.Prelude.{Ok, Err}
 use Rattle.text.specs.declared.head.HeadRead.{HeadRead}
 use Rattle.text.specs.declared.place.Place.{Place}
 use Rattle.text.specs.declared.place.LineRefusal.{LineRefusal}

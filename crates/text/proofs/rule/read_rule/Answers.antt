@@ -3,7 +3,7 @@
 use mathlib.Core.Bool.{not}
 use mathlib.Core.Path.{◌∙◌, ap}
 use native.Mathlib.Omega.{arith}
-use Rattle.core.specs.declared.result.Result.TheVariants.{Ok}
+use Rattle.std.specs.Prelude.{Ok}
 use Rattle.search.proofs.KeptLaws.{refused, passed}
 use Rattle.text.specs.Lines.{letter_v}
 use Rattle.text.specs.JobText.{rule_fields, rule_within, rule_line, with_rule, rule_part}

@@ -2,7 +2,7 @@
 -- Assumes nothing.
 use mathlib.Core.Path.{◌∙◌, ap}
 use lib.ListN.{drop}
-use Rattle.core.specs.declared.result.Result.TheVariants.{Ok}
+use Rattle.std.specs.Prelude.{Ok}
 use Rattle.text.specs.Lines.{letter_v, line}
 use Rattle.text.proofs.OptionalLineLaws.{left_out, wrong_shape, line_given, rule-alone}
 use Rattle.text.proofs.rule.rule_line.Goals as goal

@@ -3,7 +3,7 @@
 use mathlib.Core.Bool.{true}
 use mathlib.Core.Path.{◌∙◌, ap, refl}
 use native.Mathlib.Omega.{arith}
-use Rattle.core.specs.declared.result.Result.TheVariants.{Ok}
+use Rattle.std.specs.Prelude.{Ok}
 use Rattle.text.specs.Lines.{letter_w, line}
 use Rattle.text.specs.JobText.{timed_line, with_times, timed_part}
 use Rattle.text.proofs.OptionalLineLaws.{line_given, optional_none, optional_wrong, optional_read, passed_on, terms_refused}

@@ -3,7 +3,7 @@
 use mathlib.Core.Bool.{not}
 use mathlib.Core.Path.{◌∙◌, ap}
 use native.Mathlib.Omega.{arith}
-use Rattle.core.specs.declared.result.Result.TheVariants.{Ok}
+use Rattle.std.specs.Prelude.{Ok}
 use Rattle.search.proofs.KeptLaws.{refused, passed}
 use Rattle.text.specs.Lines.{letter_p, line}
 use Rattle.text.specs.JobText.{tuning_within, tuning_line, with_tuning, tuning_part}
