@@ -79,7 +79,7 @@ mod nets;
 mod order;
 mod reach;
 mod records;
-mod refusal;
+mod refusals;
 mod take_up;
 mod tariff;
 mod trees;
@@ -87,7 +87,7 @@ mod turns;
 
 use job::{FIRST_SINKS_MOST, Terms};
 use reach::Reach;
-pub use refusal::refusal;
+pub use refusals::refusal;
 use search::SINKS_MOST;
 
 // The answer of a call that is refused before any turn.
