@@ -5,6 +5,7 @@ ghost use Rattle.std.specs.Prelude.{[], ◌≡◌, get_or, take};
 ghost use Rattle.search.specs.Block.{block_of};
 ghost use Rattle.search.specs.Turn.{congestion_of, timed_congestion};
 ghost use Rattle.job.specs.Job.{job_of};
+ghost use Rattle.job.specs.Lent.{job_in};
 ghost use Rattle.negotiation.specs.Records.{decode};
 ghost use Rattle.negotiation.specs.Outcome.{route_reply};
 ghost use Rattle.negotiation.specs.Resume.{resume_reply};
@@ -19,9 +20,10 @@ ghost use Rattle.text.specs.Dot.{style_reply};
 mod counts;
 mod out;
 
-use job::Terms;
+use job::{JobTables, Terms};
 use out::OUT_ENTRIES;
-use price::Tuning;
+use price::{Numbers, Tuning};
+use search::Tables;
 use text::Style;
 use uses::KINDS;
 
@@ -40,7 +42,14 @@ pub extern "C" fn arvumnao_price(
     if out.len() < OUT_ENTRIES {
         return 0;
     }
-    out::put_price(price::price(kind, factor, others, capacity, history), out)
+    let numbers = Numbers {
+        kind,
+        factor,
+        others,
+        capacity,
+        history,
+    };
+    out::put_price(price::price(numbers), out)
 }
 
 // The price of a node for a sink of a timed job.
@@ -61,8 +70,14 @@ pub extern "C" fn arvumnao_timed_price(
     if out.len() < OUT_ENTRIES {
         return 0;
     }
-    let answer = price::timed_price(kind, factor, others, capacity, history, delay, criticality);
-    out::put_price(answer, out)
+    let numbers = Numbers {
+        kind,
+        factor,
+        others,
+        capacity,
+        history,
+    };
+    out::put_price(price::timed_price(numbers, delay, criticality), out)
 }
 
 // The distances of all nodes from the marked ones.
@@ -87,17 +102,13 @@ pub extern "C" fn arvumnao_search(
     if out.len() < OUT_ENTRIES {
         return 0;
     }
-    let answer = search::search(
+    let tables = Tables {
         kind,
         capacity,
         first_edge,
         edge_target,
-        factor,
-        work,
-        history,
-        others,
-        in_tree,
-    );
+    };
+    let answer = search::search(&tables, factor, work, history, others, in_tree);
     out::put_search(answer, out)
 }
 
@@ -125,11 +136,14 @@ pub extern "C" fn arvumnao_timed_search(
     if out.len() < OUT_ENTRIES {
         return 0;
     }
-    let answer = search::timed_search(
+    let tables = Tables {
         kind,
         capacity,
         first_edge,
         edge_target,
+    };
+    let answer = search::timed_search(
+        &tables,
         delay,
         factor,
         criticality,
@@ -145,10 +159,7 @@ pub extern "C" fn arvumnao_timed_search(
 fn entry_or(terms: &[u32], place: usize, plain: u32) -> u32
     ensures { result ≡ get_or terms.now place plain }
 {
-    if terms.len() <= place {
-        return plain;
-    }
-    terms[place]
+    terms.get(place).copied().unwrap_or(plain)
 }
 
 // The terms of a job, from a slice of numbers: limit, first, up, down, step, rule, the last iteration before rule 2 is followed, and
@@ -165,7 +176,7 @@ fn terms_of(terms: &[u32]) -> Terms
     };
     Terms {
         limit: entry_or(terms, 0, 0),
-        tuning: tuning,
+        tuning,
         rule: entry_or(terms, 5, plain.rule),
         until: entry_or(terms, 6, plain.until),
         timed: 1 <= entry_or(terms, 7, 0),
@@ -173,49 +184,16 @@ fn terms_of(terms: &[u32]) -> Terms
 }
 
 // Routes a job given as tables, by the search that aims or by the plain one.
-fn route_by(
-    kind: &[u8],
-    capacity: &[u8],
-    first_edge: &[u32],
-    edge_target: &[u16],
-    source: &[u16],
-    first_sink: &[u32],
-    sink: &[u16],
-    delay: &[u16],
-    criticality: &[u8],
-    terms: &[u32],
-    aimed: bool,
-    work: &mut [u64],
-    log: &mut [u32],
-    out: &mut [u64],
-) -> u32
-    ensures { let job = job_of kind.now capacity.now first_edge.now edge_target.now
-        source.now first_sink.now sink.now delay.now criticality.now
-        (terms_of terms.now) in
-        let reply = route_reply job work.old log.old in
+fn route_by(job: &JobTables, aimed: bool, work: &mut [u64], log: &mut [u32], out: &mut [u64]) -> u32
+    ensures { let asked = job_in job.now in
+        let reply = route_reply asked work.old log.old in
         route_done (call_of result out.new) work.new log.new
-        ≡ counted_call aimed job [] reply work.old log.old out.old }
+        ≡ counted_call aimed asked [] reply work.old log.old out.old }
 {
     if out.len() < OUT_ENTRIES {
         return 0;
     }
-    let asked = terms_of(terms);
-    let r = negotiation::route(
-        kind,
-        capacity,
-        first_edge,
-        edge_target,
-        source,
-        first_sink,
-        sink,
-        delay,
-        criticality,
-        asked,
-        aimed,
-        work,
-        log,
-    );
-    out::put_routed(r, out)
+    out::put_routed(negotiation::route(job, aimed, work, log), out)
 }
 
 // Routes a job given as tables.
@@ -241,22 +219,22 @@ pub extern "C" fn arvumnao_route(
         route_done (call_of result out.new) work.new log.new
         ≡ route_call job work.old log.old out.old }
 {
-    route_by(
+    let block = Tables {
         kind,
         capacity,
         first_edge,
         edge_target,
+    };
+    let job = JobTables {
+        block,
         source,
         first_sink,
         sink,
         delay,
         criticality,
-        terms,
-        false,
-        work,
-        log,
-        out,
-    )
+        terms: terms_of(terms),
+    };
+    route_by(&job, false, work, log, out)
 }
 
 // The same by the search that aims, and how many nodes it expanded.
@@ -282,71 +260,43 @@ pub extern "C" fn arvumnao_route_aimed(
         route_done (call_of result out.new) work.new log.new
         ≡ route_aimed_call job work.old log.old out.old }
 {
-    route_by(
+    let block = Tables {
         kind,
         capacity,
         first_edge,
         edge_target,
+    };
+    let job = JobTables {
+        block,
         source,
         first_sink,
         sink,
         delay,
         criticality,
-        terms,
-        true,
-        work,
-        log,
-        out,
-    )
+        terms: terms_of(terms),
+    };
+    route_by(&job, true, work, log, out)
 }
 
 // Continues from the words used of a lent log, by either search.
 fn resume_by(
-    kind: &[u8],
-    capacity: &[u8],
-    first_edge: &[u32],
-    edge_target: &[u16],
-    source: &[u16],
-    first_sink: &[u32],
-    sink: &[u16],
-    delay: &[u16],
-    criticality: &[u8],
-    terms: &[u32],
+    job: &JobTables,
     aimed: bool,
     used: u64,
     work: &mut [u64],
     log: &mut [u32],
     out: &mut [u64],
 ) -> u32
-    ensures { let job = job_of kind.now capacity.now first_edge.now edge_target.now
-        source.now first_sink.now sink.now delay.now criticality.now
-        (terms_of terms.now) in
+    ensures { let asked = job_in job.now in
         let lent = decode (take used log.old) in
-        let reply = resume_reply job used work.old log.old in
+        let reply = resume_reply asked used work.old log.old in
         route_done (call_of result out.new) work.new log.new
-        ≡ counted_call aimed job lent reply work.old log.old out.old }
+        ≡ counted_call aimed asked lent reply work.old log.old out.old }
 {
     if out.len() < OUT_ENTRIES {
         return 0;
     }
-    let asked = terms_of(terms);
-    let r = negotiation::resume(
-        kind,
-        capacity,
-        first_edge,
-        edge_target,
-        source,
-        first_sink,
-        sink,
-        delay,
-        criticality,
-        asked,
-        aimed,
-        used,
-        work,
-        log,
-    );
-    out::put_routed(r, out)
+    out::put_routed(negotiation::resume(job, aimed, used, work, log), out)
 }
 
 // Continues from the words used of a lent log.
@@ -373,23 +323,22 @@ pub extern "C" fn arvumnao_resume(
         route_done (call_of result out.new) work.new log.new
         ≡ resume_call job used work.old log.old out.old }
 {
-    resume_by(
+    let block = Tables {
         kind,
         capacity,
         first_edge,
         edge_target,
+    };
+    let job = JobTables {
+        block,
         source,
         first_sink,
         sink,
         delay,
         criticality,
-        terms,
-        false,
-        used,
-        work,
-        log,
-        out,
-    )
+        terms: terms_of(terms),
+    };
+    resume_by(&job, false, used, work, log, out)
 }
 
 // The same by the search that aims, and how many nodes it expanded in the turns that were appended.
@@ -416,23 +365,22 @@ pub extern "C" fn arvumnao_resume_aimed(
         route_done (call_of result out.new) work.new log.new
         ≡ resume_aimed_call job used work.old log.old out.old }
 {
-    resume_by(
+    let block = Tables {
         kind,
         capacity,
         first_edge,
         edge_target,
+    };
+    let job = JobTables {
+        block,
         source,
         first_sink,
         sink,
         delay,
         criticality,
-        terms,
-        true,
-        used,
-        work,
-        log,
-        out,
-    )
+        terms: terms_of(terms),
+    };
+    resume_by(&job, true, used, work, log, out)
 }
 
 // Audits the words used of a log, whoever wrote it; the log is only read.
@@ -462,23 +410,22 @@ pub extern "C" fn arvumnao_audit(
     if out.len() < OUT_ENTRIES {
         return 0;
     }
-    let asked = terms_of(terms);
-    let r = negotiation::audit(
+    let block = Tables {
         kind,
         capacity,
         first_edge,
         edge_target,
+    };
+    let job = JobTables {
+        block,
         source,
         first_sink,
         sink,
         delay,
         criticality,
-        asked,
-        used,
-        work,
-        log,
-    );
-    out::put_audit(r, out)
+        terms: terms_of(terms),
+    };
+    out::put_audit(negotiation::audit(&job, used, work, log), out)
 }
 
 // Reads a job text into the seven tables, and into tables 9 and 10 if it is timed.
@@ -576,14 +523,16 @@ pub extern "C" fn arvumnao_uses_add(
         add_done (call_of result out.new) counts.new
         ≡ add_call block counts.old logs log.now out.old }
 {
-    if counts.len() < KINDS {
+    if counts.len() < KINDS || out.len() < OUT_ENTRIES {
         return 0;
     }
-    if out.len() < OUT_ENTRIES {
-        return 0;
-    }
-    let answer = counts::add_log(kind, capacity, first_edge, edge_target, counts, logs, log);
-    out::put_added(answer, logs, out)
+    let tables = Tables {
+        kind,
+        capacity,
+        first_edge,
+        edge_target,
+    };
+    out::put_added(counts::add_log(&tables, counts, logs, log), logs, out)
 }
 
 // Writes the text of counts of uses.
@@ -602,20 +551,14 @@ pub extern "C" fn arvumnao_uses_write(
         write_done (call_of result out.new) buffer.new
         ≡ uses_call block counts.now logs buffer.old out.old }
 {
-    if counts.len() < KINDS {
+    if counts.len() < KINDS || out.len() < OUT_ENTRIES {
         return 0;
     }
-    if out.len() < OUT_ENTRIES {
-        return 0;
-    }
-    let answer = counts::write_uses(
+    let tables = Tables {
         kind,
         capacity,
         first_edge,
         edge_target,
-        counts,
-        logs,
-        buffer,
-    );
-    out::put_printed(answer, out)
+    };
+    out::put_printed(counts::write_uses(&tables, counts, logs, buffer), out)
 }

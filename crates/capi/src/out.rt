@@ -1,106 +1,67 @@
-// `out`, into which each call writes its numbers: a function for each kind of answer.
-ghost use Rattle.std.specs.Prelude.{[], ◌∷◌, ◌++◌, ◌≡◌, ◌≤◌, length, get_or, drop, replicate};
+// `out`, into which each call writes its numbers: a refusal's three, then the call's own.
+ghost use Rattle.std.specs.Prelude.{[], ◌∷◌, ◌≡◌, ◌+◌, ◌≤◌, length, get_or};
 ghost use Rattle.price.specs.Test.{choose};
 ghost use Rattle.price.specs.Replies.{price_reply_of};
 ghost use Rattle.search.specs.Replies.{search_refusal};
+ghost use Rattle.job.specs.Refused.{numbers_if};
 ghost use Rattle.negotiation.specs.Outcome.{route_refusal};
 ghost use Rattle.text.specs.ReadReplies.{terms_numbers, read_refusal, read_numbers};
 ghost use Rattle.text.specs.Routes.{write_refusal, written_bytes};
 ghost use Rattle.uses.specs.Uses.{add_refusal, logs_after, print_refusal, printed_bytes};
-ghost use Rattle.capi.specs.Calls.{out_entries, call_of, out_with};
+ghost use Rattle.capi.specs.Calls.{out_entries, call_of, out_with, padded};
 
-use job::Terms;
+use job::Refused;
 use negotiation::{AuditAnswer, Outcome, RouteAnswer};
-use price::PriceAnswer;
-use search::SearchAnswer;
-use text::{ReadAnswer, WriteAnswer};
-use uses::{AddAnswer, PrintAnswer};
+use price::BadNumber;
+use search::Refusal;
+use text::{JobCounts, ReadRefusal, WriteRefusal};
+use uses::{AddRefusal, PrintRefusal};
 
 // The entries of `out` that a call writes.
 pub const OUT_ENTRIES: usize = 16;
 
-// These entries hold 0.
-fn clear(out: &mut [u64])
-    requires { out_entries ≤ length out.old }
-    ensures { out.new ≡ replicate out_entries 0 ++ drop out_entries out.old }
+// A refusal's three numbers, 0 where there are fewer.
+fn told(refused: Option<Refused>) -> [u64; 3]
+    ensures { result ≡ padded 3 (numbers_if refused) }
 {
-    let mut k = 0;
-    while k < OUT_ENTRIES {
-        out[k] = 0;
-        k += 1;
+    match refused {
+        Some(r) => [r.number as u64, r.first, r.second.unwrap_or(0)],
+        None => [0; 3],
     }
 }
 
-// Writes a refusal's three numbers and up to three of the call's own, and answers 1.
-fn put_numbers(out: &mut [u64], number: u64, first: u64, second: u64, a: u64, b: u64, c: u64) -> u32
-    requires { out_entries ≤ length out.old }
-    ensures { let after = out_with (number ∷ first ∷ second ∷ []) (a ∷ b ∷ c ∷ []) out.old in
-        call_of result out.new ≡ call_of 1 after }
+// Writes a refusal's numbers and so many of the call's own, and answers 1.
+fn put(refused: Option<Refused>, own: &[u64], out: &mut [u64]) -> u32
+    requires { (out_entries ≤ length out.old) × (3 + length own.now ≤ out_entries) }
+    ensures { call_of result out.new ≡ call_of 1 (out_with (numbers_if refused) own.now out.old) }
 {
-    clear(out);
-    out[0] = number;
-    out[1] = first;
-    out[2] = second;
-    out[3] = a;
-    out[4] = b;
-    out[5] = c;
+    let first = told(refused);
+    out[..OUT_ENTRIES].fill(0);
+    out[..3].copy_from_slice(&first);
+    out[3..3 + own.len()].copy_from_slice(own);
     1
 }
 
 // Writes the numbers of a price.
-pub fn put_price(answer: PriceAnswer, out: &mut [u64]) -> u32
+pub fn put_price(answer: Result<u64, BadNumber>, out: &mut [u64]) -> u32
     requires { out_entries ≤ length out.old }
     ensures { let after = out_with (price_reply_of answer).refusal ((price_reply_of answer).price ∷ []) out.old in
         call_of result out.new ≡ call_of 1 after }
 {
     match answer {
-        PriceAnswer::Price(p) => put_numbers(out, 0, 0, 0, p, 0, 0),
-        PriceAnswer::Refused(place) => put_numbers(out, 13, place as u64, 0, 0, 0, 0),
+        Ok(price) => put(None, &[price], out),
+        Err(bad) => put(Some(bad.into()), &[0], out),
     }
 }
 
 // Writes the numbers of a search.
-pub fn put_search(answer: SearchAnswer, out: &mut [u64]) -> u32
+pub fn put_search(answer: Result<(), Refusal>, out: &mut [u64]) -> u32
     requires { out_entries ≤ length out.old }
     ensures { call_of result out.new ≡ call_of 1 (out_with (search_refusal answer) [] out.old) }
 {
     match answer {
-        SearchAnswer::Done => put_numbers(out, 0, 0, 0, 0, 0, 0),
-        SearchAnswer::BadTable(table) => put_numbers(out, 5, table as u64, 0, 0, 0, 0),
-        SearchAnswer::ShortWork(needed) => put_numbers(out, 6, needed, 0, 0, 0, 0),
-        SearchAnswer::BadNumber(place) => put_numbers(out, 13, place as u64, 0, 0, 0, 0),
-        SearchAnswer::TooLarge(nodes) => put_numbers(out, 15, nodes as u64, 0, 0, 0, 0),
-    }
-}
-
-// Writes the numbers of an outcome, of a run in this iteration after so many turns, and three of the call's own.
-fn put_outcome(
-    outcome: Outcome,
-    iteration: u64,
-    turns: u64,
-    a: u64,
-    b: u64,
-    c: u64,
-    out: &mut [u64],
-) -> u32
-    requires { out_entries ≤ length out.old }
-    ensures { let after = out_with (route_refusal outcome iteration turns) (a ∷ b ∷ c ∷ []) out.old in
-        call_of result out.new ≡ call_of 1 after }
-{
-    match outcome {
-        Outcome::Accepted => put_numbers(out, 0, 0, 0, a, b, c),
-        Outcome::Unreachable { net, place } => {
-            put_numbers(out, 7, net as u64, place as u64, a, b, c)
-        }
-        Outcome::LogFull => put_numbers(out, 8, iteration, turns, a, b, c),
-        Outcome::Limit(over) => put_numbers(out, 9, iteration, over as u64, a, b, c),
-        Outcome::BadTable(table) => put_numbers(out, 5, table as u64, 0, a, b, c),
-        Outcome::ShortWork(needed) => put_numbers(out, 6, needed, 0, a, b, c),
-        Outcome::Diverges(word) => put_numbers(out, 14, word, 0, a, b, c),
-        Outcome::TooLarge { nodes, limit } => {
-            put_numbers(out, 15, nodes as u64, limit as u64, a, b, c)
-        }
-        Outcome::NotCheapest { word, cost, least } => put_numbers(out, 18, word, cost, a, b, c),
+        Ok(()) => put(None, &[], out),
+        Err(refusal) => put(Some(refusal.into()), &[], out),
     }
 }
 
@@ -111,12 +72,12 @@ pub fn put_routed(r: RouteAnswer, out: &mut [u64]) -> u32
         let after = out_with refusal (r.iteration ∷ r.turns ∷ r.used ∷ r.expanded ∷ []) out.old in
         call_of result out.new ≡ call_of 1 after }
 {
-    let outcome = r.outcome;
-    let i = r.iteration as u64;
-    let turns = r.turns;
-    let written = put_outcome(outcome, i, turns, i, turns, r.used, out);
-    out[6] = r.expanded;
-    written
+    let own = [r.iteration as u64, r.turns, r.used, r.expanded];
+    put(
+        negotiation::refusal(r.outcome, r.iteration, r.turns),
+        &own,
+        out,
+    )
 }
 
 // The least cost of a turn that is not cheapest, 0 where the outcome is another.
@@ -124,7 +85,11 @@ fn least_of(outcome: Outcome) -> u64
     ensures { result ≡ get_or (route_refusal outcome 0 0) 3 0 }
 {
     match outcome {
-        Outcome::NotCheapest { word, cost, least } => least,
+        Outcome::NotCheapest {
+            word: _,
+            cost: _,
+            least,
+        } => least,
         _ => 0,
     }
 }
@@ -136,112 +101,76 @@ pub fn put_audit(r: AuditAnswer, out: &mut [u64]) -> u32
         let after = out_with told (r.turns ∷ r.whole ∷ r.over ∷ get_or told 3 0 ∷ []) out.old in
         call_of result out.new ≡ call_of 1 after }
 {
-    let outcome = r.outcome;
-    let least = least_of(outcome);
-    let written = put_outcome(outcome, 0, 0, r.turns, r.whole as u64, r.over as u64, out);
-    out[6] = least;
-    written
+    let own = [r.turns, r.whole as u64, r.over as u64, least_of(r.outcome)];
+    put(negotiation::refusal(r.outcome, 0, 0), &own, out)
 }
 
-// 1 for true, 0 for false.
-fn one_if(test: bool) -> u64
-    ensures { result ≡ choose test 1 0 }
+// The numbers of a job that was read: its counts, its terms, and 1 where it is timed.
+fn job_numbers(counts: JobCounts) -> [u64; 12]
+    ensures { result ≡ counts.nodes ∷ counts.edges ∷ counts.nets ∷ counts.sinks ∷ terms_numbers counts.terms }
 {
-    if test { 1 } else { 0 }
-}
-
-// Writes the counts of a job that was read and its terms, and answers 1.
-fn put_job(
-    out: &mut [u64],
-    nodes: usize,
-    edges: usize,
-    nets: usize,
-    sinks: usize,
-    terms: Terms,
-) -> u32
-    requires { out_entries ≤ length out.old }
-    ensures { let numbers = nodes ∷ edges ∷ nets ∷ sinks ∷ terms_numbers terms in
-        call_of result out.new ≡ call_of 1 (out_with [] numbers out.old) }
-{
-    clear(out);
-    out[3] = nodes as u64;
-    out[4] = edges as u64;
-    out[5] = nets as u64;
-    out[6] = sinks as u64;
-    out[7] = terms.limit as u64;
-    out[8] = terms.tuning.first as u64;
-    out[9] = terms.tuning.up as u64;
-    out[10] = terms.tuning.down as u64;
-    out[11] = terms.tuning.step as u64;
-    out[12] = terms.rule as u64;
-    out[13] = terms.until as u64;
-    out[14] = one_if(terms.timed);
-    1
+    let terms = counts.terms;
+    let tuning = terms.tuning;
+    [
+        counts.nodes as u64,
+        counts.edges as u64,
+        counts.nets as u64,
+        counts.sinks as u64,
+        terms.limit as u64,
+        tuning.first as u64,
+        tuning.up as u64,
+        tuning.down as u64,
+        tuning.step as u64,
+        terms.rule as u64,
+        terms.until as u64,
+        terms.timed as u64,
+    ]
 }
 
 // Writes the numbers of a reading.
-pub fn put_read(answer: ReadAnswer, out: &mut [u64]) -> u32
+pub fn put_read(answer: Result<JobCounts, ReadRefusal>, out: &mut [u64]) -> u32
     requires { out_entries ≤ length out.old }
     ensures { let after = out_with (read_refusal answer) (read_numbers answer) out.old in
         call_of result out.new ≡ call_of 1 after }
 {
     match answer {
-        ReadAnswer::Job {
-            nodes,
-            edges,
-            nets,
-            sinks,
-            terms,
-        } => put_job(out, nodes, edges, nets, sinks, terms),
-        ReadAnswer::Malformed(line) => put_numbers(out, 1, line as u64, 0, 0, 0, 0),
-        ReadAnswer::BeyondBounds(line) => put_numbers(out, 2, line as u64, 0, 0, 0, 0),
-        ReadAnswer::WrongOrder(line) => put_numbers(out, 3, line as u64, 0, 0, 0, 0),
-        ReadAnswer::ShortTable(table) => put_numbers(out, 4, table as u64, 0, 0, 0, 0),
-        ReadAnswer::TooLarge { nodes, limit } => {
-            put_numbers(out, 15, nodes as u64, limit as u64, 0, 0, 0)
-        }
+        Ok(counts) => put(None, &job_numbers(counts), out),
+        Err(refusal) => put(Some(refusal.into()), &[], out),
     }
 }
 
 // Writes the numbers of a writing.
-pub fn put_written(answer: WriteAnswer, out: &mut [u64]) -> u32
+pub fn put_written(answer: Result<usize, WriteRefusal>, out: &mut [u64]) -> u32
     requires { out_entries ≤ length out.old }
     ensures { let after = out_with (write_refusal answer) (written_bytes answer ∷ []) out.old in
         call_of result out.new ≡ call_of 1 after }
 {
     match answer {
-        WriteAnswer::Written(bytes) => put_numbers(out, 0, 0, 0, bytes as u64, 0, 0),
-        WriteAnswer::BadTable(table) => put_numbers(out, 5, table as u64, 0, 0, 0, 0),
-        WriteAnswer::Unsound(word) => put_numbers(out, 10, word as u64, 0, 0, 0, 0),
-        WriteAnswer::ShortBuffer(needed) => put_numbers(out, 11, needed, 0, 0, 0, 0),
+        Ok(bytes) => put(None, &[bytes as u64], out),
+        Err(refusal) => put(Some(refusal.into()), &[0], out),
     }
 }
 
 // Writes the numbers of a call that adds a log to counts of this many logs.
-pub fn put_added(answer: AddAnswer, logs: u64, out: &mut [u64]) -> u32
+pub fn put_added(answer: Result<u64, AddRefusal>, logs: u64, out: &mut [u64]) -> u32
     requires { out_entries ≤ length out.old }
     ensures { let after = out_with (add_refusal answer) (logs_after logs answer ∷ []) out.old in
         call_of result out.new ≡ call_of 1 after }
 {
     match answer {
-        AddAnswer::Added(after) => put_numbers(out, 0, 0, 0, after, 0, 0),
-        AddAnswer::BadTable(table) => put_numbers(out, 5, table as u64, 0, logs, 0, 0),
-        AddAnswer::BadCount(kind) => put_numbers(out, 13, kind as u64, 0, logs, 0, 0),
-        AddAnswer::Unsound(word) => put_numbers(out, 10, word as u64, 0, logs, 0, 0),
-        AddAnswer::LogsFull(most) => put_numbers(out, 16, most, 0, logs, 0, 0),
+        Ok(after) => put(None, &[after], out),
+        Err(refusal) => put(Some(refusal.into()), &[logs], out),
     }
 }
 
 // Writes the numbers of a call that prints counts.
-pub fn put_printed(answer: PrintAnswer, out: &mut [u64]) -> u32
+pub fn put_printed(answer: Result<usize, PrintRefusal>, out: &mut [u64]) -> u32
     requires { out_entries ≤ length out.old }
     ensures { let after = out_with (print_refusal answer) (printed_bytes answer ∷ []) out.old in
         call_of result out.new ≡ call_of 1 after }
 {
     match answer {
-        PrintAnswer::Written(bytes) => put_numbers(out, 0, 0, 0, bytes as u64, 0, 0),
-        PrintAnswer::BadTable(table) => put_numbers(out, 5, table as u64, 0, 0, 0, 0),
-        PrintAnswer::BadCount(kind) => put_numbers(out, 13, kind as u64, 0, 0, 0, 0),
-        PrintAnswer::ShortBuffer(needed) => put_numbers(out, 11, needed, 0, 0, 0, 0),
+        Ok(bytes) => put(None, &[bytes as u64], out),
+        Err(refusal) => put(Some(refusal.into()), &[0], out),
     }
 }
