@@ -1,18 +1,18 @@
 -- What each call for C leaves is what it is to leave: the laws over plain values, for a short `out` and for every answer.
 -- Assumes nothing.
 use mathlib.Core.Bool.{Bool, false}
-use mathlib.Core.List.{List, [], ◌∷◌, ◌++◌, append-nil}
-use mathlib.Core.Path.{◌≡◌, refl, sym, ◌∙◌, ap}
+use mathlib.Core.List.{List, [], ◌∷◌, ◌++◌}
+use mathlib.Core.Path.{◌≡◌, sym, ◌∙◌, ap}
 use Prim.Native.Nat.{ℕ, ◌≤◌, ◌<◌}
-use native.Mathlib.Omega.{arith}
-use lib.ListN.{length, get_or, set, take, drop, replicate, take-append-drop}
-use lib.Seq.{length-take-le, take_all, take_at, drop_at}
+use Rattle.std.specs.Prelude.{Result}
+use lib.ListN.{length, get_or, take, drop, take-append-drop}
+use lib.Seq.{length-take-le, take_at, drop_at}
 use borrow.Author.Tests.{lt-ltb, le-ltb}
 use Rattle.price.specs.Replies as p
-use Rattle.price.specs.declared.PriceAnswer.{PriceAnswer}
+use Rattle.price.specs.declared.BadNumber.{BadNumber}
 use Rattle.search.specs.Block.{Block}
 use Rattle.search.specs.Replies.{SearchReply, search_refusal, search_reply_of}
-use Rattle.search.specs.declared.SearchAnswer.{SearchAnswer}
+use Rattle.search.specs.declared.Refusal.{Refusal}
 use Rattle.job.specs.Job.{Job}
 use Rattle.job.specs.Join.{joined}
 use Rattle.negotiation.specs.Records.{Record}
@@ -23,9 +23,10 @@ use Rattle.negotiation.specs.declared.AuditAnswer.{AuditAnswer}
 use Rattle.negotiation.specs.declared.RouteAnswer.{RouteAnswer}
 use Rattle.text.specs.ReadReplies.{Tables, read_refusal, read_numbers, read_reply_of, read_reply}
 use Rattle.text.specs.Routes.{WriteReply}
-use Rattle.text.specs.declared.ReadAnswer.{ReadAnswer}
+use Rattle.text.specs.declared.JobCounts.{JobCounts}
+use Rattle.text.specs.declared.ReadRefusal.{ReadRefusal}
 use Rattle.uses.specs.Uses.{kind_count, use_counts_of, AddReply, add_refusal, logs_after, add_reply_of, add_reply, print_reply}
-use Rattle.uses.specs.declared.AddAnswer.{AddAnswer}
+use Rattle.uses.specs.declared.AddRefusal.{AddRefusal}
 use Rattle.uses.proofs.UsesHold.{counts-long}
 use Rattle.capi.specs.Calls.{out_entries, Call, call_of, out_with, priced_call, search_done, searched_call, RouteCall, route_done, routed_call, counted_call, read_done, read_call, WriteCall, write_done, written_call}
 use Rattle.capi.specs.Calls.{audit_done, audited_call, add_done, add_call, uses_call}
@@ -39,7 +40,7 @@ module _ (reply : p.PriceReply) (out : List ℕ) where
 
   -- the price answered `r`, whose numbers were written; so of each call below
   pub price_called :
-      (call : Call) (r : PriceAnswer) → out_entries ≤ length out → p.price_reply_of r ≡ reply
+      (call : Call) (r : Result ℕ BadNumber) → out_entries ≤ length out → p.price_reply_of r ≡ reply
       → call ≡ call_of 1 (out_with (p.price_reply_of r).refusal ((p.price_reply_of r).price ∷ []) out) → call ≡ priced_call reply out
   unfolding priced_call
   price_called call r h answers put = rw (le-ltb (length out) out_entries h, ← answers) put
@@ -52,27 +53,12 @@ module _ (reply : SearchReply) (work out : List ℕ) where
   search_short h = rw (lt-ltb (length out) out_entries h)
 
   pub search_called :
-      (left : List ℕ) (call : Call) (r : SearchAnswer) → out_entries ≤ length out → search_reply_of r left ≡ reply
+      (left : List ℕ) (call : Call) (r : Result (Unit {0}) Refusal) → out_entries ≤ length out → search_reply_of r left ≡ reply
       → call ≡ call_of 1 (out_with (search_refusal r) [] out) → search_done call left ≡ searched_call reply work out
   unfolding searched_call
   search_called left call r h answers put = rw (le-ltb (length out) out_entries h, ← answers, put)
 
 -- ---- the router
-
--- a number more behind the three, whatever is refused
-one_more :
-    (refusal out : List ℕ) (a b c d : ℕ) → set (out_with refusal (a ∷ b ∷ c ∷ []) out) 6 d ≡ out_with refusal (a ∷ b ∷ c ∷ d ∷ []) out
-one_more [] out a b c d = refl
-one_more (x ∷ []) out a b c d = refl
-one_more (x ∷ y ∷ []) out a b c d = refl
-one_more (x ∷ y ∷ z ∷ zs) out a b c d = refl
-
--- an outcome's numbers with three of the call's own, then a fourth
-pub fourth_put :
-    (refusal out left : List ℕ) (n a b c d : ℕ) → call_of n left ≡ call_of 1 (out_with refusal (a ∷ b ∷ c ∷ []) out)
-    → call_of n (set left 6 d) ≡ call_of 1 (out_with refusal (a ∷ b ∷ c ∷ d ∷ []) out)
-fourth_put refusal out left n a b c d put =
-    ap (λ (call : Call). call_of call.returned (set call.out 6 d)) put ∙ ap (call_of 1) (one_more refusal out a b c d)
 
 module _ (reply : RouteReply) (further work log out : List ℕ) where
   pub route_short : length out < out_entries → route_done (call_of 0 out) work log ≡ routed_call reply further work log out
@@ -117,7 +103,7 @@ module _ (text : List ℕ) (t : Tables) (out : List ℕ) where
   read_short h = rw (lt-ltb (length out) out_entries h)
 
   pub read_called :
-      (left : Tables) (call : Call) (r : ReadAnswer) → out_entries ≤ length out → read_reply_of r left ≡ read_reply text t
+      (left : Tables) (call : Call) (r : Result JobCounts ReadRefusal) → out_entries ≤ length out → read_reply_of r left ≡ read_reply text t
       → call ≡ call_of 1 (out_with (read_refusal r) (read_numbers r) out) → read_done call left ≡ read_call text t out
   unfolding read_call
   read_called left call r h answers put = rw (le-ltb (length out) out_entries h, ← answers, put)
@@ -138,18 +124,14 @@ module _ (reply : WriteReply) (buffer out : List ℕ) where
 
 -- ---- counts of uses
 
-module _ (counts : List ℕ) {all : List ℕ} (copied : all ≡ take kind_count counts ++ drop kind_count (replicate kind_count 0)) where
-  -- the array has the entries of all kinds
-  copied_all : all ≡ take kind_count counts
-  copied_all = copied ∙ append-nil (take kind_count counts)
-
+module _ (counts : List ℕ) {all : List ℕ} (copied_all : all ≡ take kind_count counts) where
   pub uses-written :
       (b : Block) (logs : ℕ) (buffer : List ℕ) {reply : WriteReply} → reply ≡ print_reply b (use_counts_of all logs) buffer
       → reply ≡ print_reply b (use_counts_of (take kind_count counts) logs) buffer
   uses-written b logs buffer is = is ∙ ap (λ (xs : List ℕ). print_reply b (use_counts_of xs logs) buffer) copied_all
 
   -- after a log it is as long
-  module _ (long : kind_count ≤ length counts) (b : Block) (logs : ℕ) (log : List ℕ) (r : AddAnswer) {after : List ℕ} (answers : add_reply_of logs r after ≡ add_reply b (use_counts_of all logs) log) where
+  module _ (long : kind_count ≤ length counts) (b : Block) (logs : ℕ) (log : List ℕ) (r : Result ℕ AddRefusal) {after : List ℕ} (answers : add_reply_of logs r after ≡ add_reply b (use_counts_of all logs) log) where
     after-long : length after ≡ kind_count
     after-long =
         ap (λ (reply : AddReply). length reply.counts.uses) answers
@@ -157,14 +139,13 @@ module _ (counts : List ℕ) {all : List ℕ} (copied : all ≡ take kind_count 
 
     -- and stands in the slice again
     pub log_added_lem :
-        {left : List ℕ} → left ≡ take kind_count after ++ drop kind_count counts
+        {left : List ℕ} → left ≡ after ++ drop kind_count counts
         → (add_reply_of logs r (take kind_count left) ≡ add_reply b (use_counts_of (take kind_count counts) logs) log) × (drop kind_count left ≡ drop kind_count counts)
     log_added_lem {left} put =
-        let size = after-long in
-        let back : left ≡ after ++ drop kind_count counts = put ∙ ap (λ (xs : List ℕ). xs ++ drop kind_count counts) (take_all kind_count after (omega arith)) in (
-          ap (add_reply_of logs r) (ap (take kind_count) back ∙ take_at after (drop kind_count counts) kind_count size)
+        let size = after-long in (
+          ap (add_reply_of logs r) (ap (take kind_count) put ∙ take_at after (drop kind_count counts) kind_count size)
               ∙ answers ∙ ap (λ (xs : List ℕ). add_reply b (use_counts_of xs logs) log) copied_all,
-          ap (drop kind_count) back ∙ drop_at after (drop kind_count counts) kind_count size,
+          ap (drop kind_count) put ∙ drop_at after (drop kind_count counts) kind_count size,
         )
 
 module _ (b : Block) (counts : List ℕ) (logs : ℕ) (log out : List ℕ) where
@@ -178,7 +159,7 @@ module _ (b : Block) (counts : List ℕ) (logs : ℕ) (log out : List ℕ) where
     add-short h = rw (le-ltb (length counts) kind_count long, lt-ltb (length out) out_entries h)
 
     pub add_called :
-        (left : List ℕ) (call : Call) (r : AddAnswer) → out_entries ≤ length out
+        (left : List ℕ) (call : Call) (r : Result ℕ AddRefusal) → out_entries ≤ length out
         → (add_reply_of logs r (take kind_count left) ≡ add_reply b (use_counts_of (take kind_count counts) logs) log) × (drop kind_count left ≡ drop kind_count counts)
         → call ≡ call_of 1 (out_with (add_refusal r) (logs_after logs r ∷ []) out) → add_done call left ≡ add_call b counts logs log out
     unfolding add_call

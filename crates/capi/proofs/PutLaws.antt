@@ -1,6 +1,6 @@
 -- A refusal's three numbers and the call's own, written over zeros.
 -- Assumes nothing.
-use Rattle.std.proofs.Common.{◌≡◌, ℕ, [], ◌∷◌, ◌+◌, ◌-◌, ◌≤◌, List, length, take, drop, replicate, ◌++◌, refl, sym, ◌∙◌, ap, arith, rules, append_assoc, subst}
+use Rattle.std.proofs.Common.{◌≡◌, ℕ, [], ◌∷◌, ◌+◌, ◌-◌, ◌≤◌, List, length, take, drop, replicate, ◌++◌, refl, sym, ◌∙◌, ap, arith, append_assoc, subst}
 use Rattle.std.proofs.lemmas.List.{drop-replicate, take-replicate, drop-append-le, length-replicate}
 use Rattle.std.proofs.Math.Seq.{take-append_seam, drop-append_seam, take-append-add}
 use borrow.Rule.Slice.PartMut.{put_mid}

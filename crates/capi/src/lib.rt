@@ -509,6 +509,7 @@ pub extern "C" fn arvumnao_dot(
 
 // Adds a log to counts of uses.
 #[unsafe(no_mangle)]
+#[tactic(auto, unfolding(crate::specs::Calls::add_call))]
 pub extern "C" fn arvumnao_uses_add(
     kind: &[u8],
     capacity: &[u8],
@@ -537,6 +538,7 @@ pub extern "C" fn arvumnao_uses_add(
 
 // Writes the text of counts of uses.
 #[unsafe(no_mangle)]
+#[tactic(auto, unfolding(crate::specs::Calls::uses_call, crate::specs::Calls::written_call))]
 pub extern "C" fn arvumnao_uses_write(
     kind: &[u8],
     capacity: &[u8],

@@ -13,7 +13,8 @@ fn answer(r: RouteAnswer, aimed: bool) {
         show::refused(refused.number, refused.first, refused.second);
     }
     let own = [r.iteration as u64, r.turns, r.used, r.expanded];
-    show::answered(if aimed { &own } else { &own[..3] });
+    let shown = if aimed { 4 } else { 3 };
+    show::answered(&own[..shown]);
 }
 
 // What line 2 says.

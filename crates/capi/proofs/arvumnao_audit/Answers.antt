@@ -15,5 +15,5 @@ returns c =
     let job =
     job_of a.kind.now a.capacity.now a.first_edge.now a.edge_target.now a.source.now a.first_sink.now a.sink.now
     a.delay.now a.criticality.now (terms_of a.terms.now) in
-    let answers = rw c.terms_of-asked.ensures at c.audit-r.ensures.audited.as_audited in
-    audit_called (audit_reply job a.used _ _) _ _ _ _ c.audit-r.result c.if-out-lt-OUT_ENTRIES.false answers c.put_audit.ensures
+    let answers = rw c.terms_of.ensures at c.audit.ensures.audited.as_audited in
+    audit_called (audit_reply job a.used _ _) _ _ _ _ c.audit.result c.if-out-lt-OUT_ENTRIES.false answers c.put_audit.ensures

@@ -4,4 +4,4 @@ use Rattle.capi.proofs.CallLaws.{plain_called}
 use Rattle.capi.proofs.arvumnao_resume.Goals as goal
 
 pub returns : goal.returns
-returns c = plain_called _ _ _ _ _ _ c.resume_by.ensures
+returns c = plain_called _ _ _ _ _ _ (rw c.terms_of.ensures at c.resume_by.ensures)

@@ -8,4 +8,4 @@ returns-then-out-lt-OUT_ENTRIES c = price-short _ _ c.if-out-lt-OUT_ENTRIES.true
 
 pub returns : goal.returns
 returns c =
-    price_called _ _ _ c.timed_price-answer.result c.if-out-lt-OUT_ENTRIES.false c.timed_price-answer.ensures c.put_price.ensures
+    price_called _ _ _ c.timed_price.result c.if-out-lt-OUT_ENTRIES.false c.timed_price.ensures c.put_price.ensures

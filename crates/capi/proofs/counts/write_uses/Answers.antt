@@ -5,4 +5,4 @@ use Rattle.capi.proofs.counts.write_uses.Goals as goal
 
 pub returns : goal.returns
 returns c =
-    uses-written c.args.counts.now c.copy_counts.ensures _ _ _ c.write_uses.ensures.answers
+    uses-written c.args.counts.now c.copy_from_slice.ensures.after _ _ _ c.write_uses.ensures.answers

@@ -1,11 +1,15 @@
--- `out::put_routed` meets its contract: behind the outcome's numbers stands how many nodes were expanded.
+-- `out::put_routed` meets its contract: the outcome's numbers, then the call's own.
 -- Assumes nothing.
+use Rattle.std.proofs.Common.{◌≡◌, ◌∙◌, ap}
+use Rattle.job.specs.Refused.{numbers_if}
 use Rattle.negotiation.specs.Outcome.{route_refusal}
-use Rattle.capi.proofs.CallLaws.{fourth_put}
+use Rattle.capi.specs.Calls.{padded}
+use Rattle.capi.proofs.PutLaws.{three_told}
 use Rattle.capi.proofs.out.put_routed.Goals as goal
 
 pub returns : goal.returns
 returns c =
-    let a = c.args in
-    fourth_put (route_refusal a.r.outcome a.r.iteration a.r.turns) a.out.now _ _ a.r.iteration a.r.turns a.r.used _
-    c.put_outcome-written.ensures
+    let r = c.args.r in
+    let three : padded 3 (numbers_if c.refusal.result) ≡ padded 3 (route_refusal r.outcome r.iteration r.turns) =
+    ap (padded 3) c.refusal.ensures ∙ three_told (route_refusal r.outcome r.iteration r.turns) in
+    rw three at c.put.ensures
