@@ -2,6 +2,8 @@
 // the whole log afterwards. The expected lines stand in the file stdout.
 #![tactic(auto)]
 
+ghost use Rattle.std.specs.Prelude.{◌≤◌};
+
 use cases::{lines, read, show};
 use job::{JobTables, Tables, Terms};
 use negotiation::RouteAnswer;
@@ -76,7 +78,9 @@ fn route_case(job: &JobTables, n: Asked) {
 }
 
 // The line after the tables.
-fn after_tables(whole: bool) -> usize {
+fn after_tables(whole: bool) -> usize
+    ensures { result ≤ 11 }
+{
     if whole { 11 } else { 9 }
 }
 
