@@ -243,11 +243,16 @@ module _ {timed : Bool} {sinks cs : List ℕ} {from to : ℕ} {marks : List ℕ}
           let d = due in
           omega arith
 
-      pub tried-none : place ≡ to - from → TriedSinks timed marks sinks cs from to (record { weighting = record { timed = true; criticality = 0 }; from = to; to = to })
+      pub tried-none : to ≤ from + place → TriedSinks timed marks sinks cs from to (record { weighting = record { timed = timed; criticality = 0 }; from = from + place; to = to })
       unfolding sink_due
-      tried-none all =
+      tried-none past-all =
+          let most = place_within in
+          let order = ready.order in
+          let all : place ≡ to - from = omega arith in
+          let end : from + place ≡ to = omega arith in
           let none : get_or (slice from to cs) place 0 ≡ 0 = get_or-eq_default (slice from to cs) 0 (let e = criticalities-long in omega arith) in
           let past : ltb place (length (slice from to sinks)) ≡ false = le-ltb place (length (slice from to sinks)) (let e = sinks-long in omega arith) in
+          rw end
           record {
             weighting-is = rw (weighs, ← due, none);
             tried = rw (weighs, ← due, past) (slice_empty to sinks);
@@ -256,17 +261,16 @@ module _ {timed : Bool} {sinks cs : List ℕ} {from to : ℕ} {marks : List ℕ}
           }
 
       pub tried_some :
-          place < to - from
-          → TriedSinks timed marks sinks cs from to (record { weighting = record { timed = true; criticality = get_or cs (from + place) 0 }; from = from + place; to = from + place + 1 })
+          from + place < to
+          → TriedSinks timed marks sinks cs from to (record { weighting = record { timed = timed; criticality = get_or cs (from + place) 0 }; from = from + place; to = from + place + 1 })
       unfolding sink_due
       tried_some l =
-          let i : from + place < to = omega arith in
           let w = ready.within in
           let below : ltb place (length (slice from to sinks)) ≡ true = lt-ltb place (length (slice from to sinks)) (let e = sinks-long in omega arith) in
           record {
-            weighting-is = rw (weighs, ← due, part_at from to cs place i);
+            weighting-is = rw (weighs, ← due, part_at from to cs place l);
             tried =
-                rw (weighs, ← due, below, part_at from to sinks place i)
+                rw (weighs, ← due, below, part_at from to sinks place l)
                 (slice_one sinks (from + place) (omega arith));
             order = omega arith;
             within = omega arith;
