@@ -12,7 +12,6 @@ use lib.ListN.{length, get_or, take, drop, get_or-eq_default}
 use lib.Seq.{slice, slice_empty, slice-cons, length-slice, get_or-drop, get_or-take}
 use borrow.Author.Tests.{lt-ltb, le-ltb, eq-eqb, ne_eqb}
 use Rattle.price.specs.Bounds.{criticality_most}
-use Rattle.price.specs.Timed.{untimed}
 use Rattle.price.specs.declared.Weighting.{Weighting}
 use Rattle.price.proofs.ListLaws.{part_slice}
 use Rattle.price.proofs.TestLaws.{true≢false}
@@ -26,7 +25,7 @@ use Rattle.negotiation.specs.Steps.{CanTurn, turn_count, TurnDone}
 use Rattle.negotiation.specs.declared.order.Tried.{Tried}
 use Rattle.negotiation.specs.declared.tariff.Tariff.{Tariff}
 use Rattle.negotiation.specs.declared.turns.NoRoom.{NoRoom}
-use Rattle.std.specs.Prelude.{Option, Some, None, Result, Ok, Err}
+use Rattle.std.specs.Prelude.{Option, Result}
 use Rattle.negotiation.proofs.OrderLaws.{opened, falling_within, due-is}
 
 -- ---- the pass over the sinks
@@ -194,15 +193,6 @@ part_at from to xs p inside = get_or-drop from (take to xs) p 0 ∙ get_or-take 
 module _ {timed : Bool} {sinks cs : List ℕ} {from to : ℕ} {marks : List ℕ} (ready : SinksReady timed sinks cs from to marks) where
   sinks-long : length (slice from to sinks) ≡ to - from
   sinks-long = length-slice from to sinks ready.within
-
-  pub tried-untimed : timed ≡ false → TriedSinks timed marks sinks cs from to (record { weighting = untimed; from = from; to = to })
-  tried-untimed t =
-      record {
-        weighting-is = rw t;
-        tried = rw t;
-        order = ready.order;
-        within = ready.within;
-      }
 
   module _ (weighs : timed ≡ true) where
     pub criticalities-within : to ≤ length cs

@@ -1,7 +1,7 @@
 // Nets of one source are joined into the first of them.
-ghost use Rattle.std.specs.Prelude.{true, ◌≡◌, List, ℕ, ◌+◌, ◌-◌, ◌≤◌, ◌<◌, length, get_or, take};
+ghost use Rattle.std.specs.Prelude.{map, true, ◌≡◌, List, ℕ, ◌+◌, ◌-◌, ◌≤◌, ◌<◌, length, get_or, take};
 ghost use Rattle.search.specs.Replies.{sinks_most};
-ghost use Rattle.job.specs.Join.{entries_at, places_from, taking};
+ghost use Rattle.job.specs.Join.{places_from, taking};
 ghost use Rattle.negotiation.specs.JoinSteps.{Joinable, JoinRoom, nets_only, listed_count};
 ghost use Rattle.negotiation.specs.JoinSteps.{with_listed, PlacesTaken, Placed, JoinedPlaces, JoinedTables};
 ghost use Rattle.job.specs.Steps.{AllBelow};
@@ -116,23 +116,11 @@ fn join_nets(
     count
 }
 
-// The entries of a table at the first places of a list.
-fn gather(table: &[u16], places: &[u16], count: usize, entries: &mut [u16])
+// The entries of a table at the first places of a list, each of which is one of the table: what is read past its end doesn't matter.
+fn gather<T: Copy>(table: &[T], places: &[u16], count: usize, entries: &mut [T])
     requires count_in_bounds { (count ≤ length places.now) × (count ≤ length entries.old) }
     requires all_below { AllBelow (length table.now) (take count places.now) }
-    ensures { take count entries.new ≡ entries_at table.now (take count places.now) }
-{
-    for k in 0..count {
-        let p = places[k] as usize;
-        entries[k] = table[p];
-    }
-}
-
-// The same of a table of bytes.
-fn gather_bytes(table: &[u8], places: &[u16], count: usize, entries: &mut [u8])
-    requires count_in_bounds { (count ≤ length places.now) × (count ≤ length entries.old) }
-    requires all_below { AllBelow (length table.now) (take count places.now) }
-    ensures { take count entries.new ≡ entries_at table.now (take count places.now) }
+    ensures { (other : T) → take count entries.new ≡ map (λ p. get_or table.now p other) (take count places.now) }
 {
     for k in 0..count {
         let p = places[k] as usize;
@@ -161,7 +149,7 @@ pub fn joined_tables(
     let count = join_nets(job.source, job.first_sink, job.sink, firsts, &mut places);
     gather(job.sink, &places, count, sinks);
     if job.terms.timed {
-        gather_bytes(job.criticality, &places, count, criticalities);
+        gather(job.criticality, &places, count, criticalities);
     }
     count
 }

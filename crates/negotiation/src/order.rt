@@ -46,7 +46,11 @@ pub fn next_tried(job: &JobTables, from: usize, to: usize, in_tree: &[u8]) -> Tr
         criticality: 0,
     };
     if !weighting.timed {
-        return Tried { weighting, from, to };
+        return Tried {
+            weighting,
+            from,
+            to,
+        };
     }
     let at = from + place_due(&job.sink[from..to], &job.criticality[from..to], in_tree);
     let mut end = to;

@@ -1,8 +1,7 @@
 -- `negotiation::follow::step_passes` meets its contract: an edge leads to a node, so that its mark and its goal can be read.
 -- Assumes nothing.
 use native.Mathlib.Omega.{arith}
-use mathlib.Core.Bool.{true, false}
-use mathlib.Core.Path.{◌≡◌, sym, ◌∙◌}
+use mathlib.Core.Path.{sym, ◌∙◌}
 use Rattle.price.proofs.TestLaws.{true≢false}
 use Rattle.search.proofs.BlockLaws.{edge_to}
 use Rattle.negotiation.proofs.follow.step_passes.Goals.{then-has_edge, else-has_edge}

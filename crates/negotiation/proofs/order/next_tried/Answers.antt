@@ -2,7 +2,7 @@
 -- Assumes nothing.
 use native.Mathlib.Omega.{arith}
 use borrow.Author.Tests.{not-false}
-use Rattle.negotiation.proofs.NextTriedLaws.{parts_long, parts_nodes, parts_low, criticalities-within, place_within, tried-none, tried_some}
+use Rattle.negotiation.proofs.NextTriedLaws.{place_within, tried-none, tried_some}
 use Rattle.negotiation.proofs.order.next_tried.Goals as goal
 
 pub overflow_add-at : goal.overflow_add-at

@@ -16,11 +16,13 @@ loop-place-preserved c =
       | then-in_tree-s-ne1+then-least-criticality w ↦
           rw (w.due-is, w.least-is) (leading_new _ _ _ so_far (unmarked _ _ w.if-in_tree-s-ne1.true) w.if-least-criticality.true, omega arith)
       | else-in_tree-s-ne1 w ↦
-          rw (w.due-is, w.least-is)
-          (elim w.else-in_tree-s-ne1.branch [
-            | else-in_tree-s-ne1-via-then-in_tree-s-ne1+else-least-criticality v ↦ leading_lower _ _ _ so_far v.if-least-criticality.false
-            | else-in_tree-s-ne1-via-else-in_tree-s-ne1 v ↦ leading_joined _ _ _ so_far (marked _ _ v.if-in_tree-s-ne1.false)
-          ], omega arith)
+          rw (w.due-is, w.least-is) (
+            elim w.else-in_tree-s-ne1.branch [
+              | else-in_tree-s-ne1-via-then-in_tree-s-ne1+else-least-criticality v ↦ leading_lower _ _ _ so_far v.if-least-criticality.false
+              | else-in_tree-s-ne1-via-else-in_tree-s-ne1 v ↦ leading_joined _ _ _ so_far (marked _ _ v.if-in_tree-s-ne1.false)
+            ],
+            omega arith,
+          )
     ]
 
 pub returns : goal.returns
