@@ -42,6 +42,7 @@ fn records_crowded(log: &[u32], from: usize, until: usize, capacity: &[u8], user
         result ≡ some_over capacity.now users.now tree }
 {
     let mut at = from;
+    // No `for`: a record's length stands in the record.
     while at < until {
         let end = at + 6 + log[at + 5] as usize;
         if path_crowded(log, at + 6, end, capacity, users) {

@@ -20,6 +20,7 @@ use price::{Numbers, Weighting};
 use search::{Prices, Tables};
 
 // 2^64 − 1, which no cost reaches.
+// No Option of a cost: the definition `least_asked` answers with this number too, and what is asked is only whether it is below a cost.
 const FAR: u64 = 18446744073709551615;
 
 // There is an edge from node u to v.

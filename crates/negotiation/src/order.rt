@@ -18,6 +18,7 @@ pub struct Tried {
 }
 
 // The place of the first of the most critical sinks that are not joined, how many sinks there are where all are joined.
+// No Option: in the definition too the count stands for none, and a turn's sinks end there.
 fn place_due(sinks: &[u16], criticality: &[u8], in_tree: &[u8]) -> usize
     requires criticality_len { (length criticality.now ≡ length sinks.now) × AllBelow (length in_tree.now) sinks.now }
     requires all_below { AllBelow (criticality_most + 1) criticality.now }

@@ -13,6 +13,7 @@ pub fn digit_count(n: u64) -> usize
 {
     let mut count = 1;
     let mut left = n / 10;
+    // No `for`: the number itself tells how many digits it has.
     while 0 < left {
         left = left / 10;
         count += 1;
