@@ -28,9 +28,7 @@ pub fn put_number(buffer: &mut [u8], at: usize, n: u64) -> usize
 {
     let count = digit_count(n);
     let mut left = n;
-    let mut k = count;
-    while 0 < k {
-        k -= 1;
+    for k in (0..count).rev() {
         buffer[at + k] = (48 + left % 10) as u8;
         left = left / 10;
     }
