@@ -1,4 +1,5 @@
 // The calls for C, C++ and Rust; include/arvumnao.h declares them. Each takes `out`, into which it writes its numbers.
+// Their arguments are loose ones however many they are: C's own types, in the header's order, which may not change.
 #![tactic(auto)]
 
 ghost use Rattle.std.specs.Prelude.{[], ◌≡◌, get_or, take};

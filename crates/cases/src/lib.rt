@@ -22,6 +22,7 @@ pub fn each<F: Fn(&[u8])>(one: F)
     }
     let file = &file[..size];
     let mut at = lines::first_case(file, 0);
+    // No `for`: where a case ends is known only at the case.
     while at < file.len() {
         one(&file[at..]);
         at = lines::next_case(file, at);

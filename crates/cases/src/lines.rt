@@ -22,6 +22,7 @@ pub fn first_case(text: &[u8], from: usize) -> usize
     ensures { from ≤ result }
 {
     let mut k = from;
+    // No `for`: where a line ends is known only at the line.
     while k < text.len() && matches!(text[k], b'\n' | b'#') {
         k = next_line(text, k);
     }
@@ -34,6 +35,7 @@ fn case_end(text: &[u8], at: usize) -> usize
     ensures { at < result }
 {
     let mut k = next_line(text, at);
+    // No `for`: where a line ends is known only at the line.
     while k < text.len() && text[k] != 10 {
         k = next_line(text, k);
     }

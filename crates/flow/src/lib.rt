@@ -63,6 +63,7 @@ fn if_timed(terms: Terms, count: usize) -> usize
 }
 
 // Reads a job text, routes the job and writes its routes in this style. The tables, the work slice and the log are lent for it.
+// These stay loose slices, as in text: with a struct of `&mut` slices the proof of the reader didn't close.
 pub fn run<'x>(
     style: Style,
     text: &[u8],

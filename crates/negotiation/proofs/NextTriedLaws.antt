@@ -12,7 +12,6 @@ use lib.ListN.{length, get_or, take, drop, get_or-eq_default}
 use lib.Seq.{slice, slice_empty, slice-cons, length-slice, get_or-drop, get_or-take}
 use borrow.Author.Tests.{lt-ltb, le-ltb, eq-eqb, ne_eqb}
 use Rattle.price.specs.Bounds.{criticality_most}
-use Rattle.price.specs.Timed.{untimed}
 use Rattle.price.specs.declared.Weighting.{Weighting}
 use Rattle.price.proofs.ListLaws.{part_slice}
 use Rattle.price.proofs.TestLaws.{true≢false}
@@ -26,7 +25,7 @@ use Rattle.negotiation.specs.Steps.{CanTurn, turn_count, TurnDone}
 use Rattle.negotiation.specs.declared.order.Tried.{Tried}
 use Rattle.negotiation.specs.declared.tariff.Tariff.{Tariff}
 use Rattle.negotiation.specs.declared.turns.NoRoom.{NoRoom}
-use Rattle.std.specs.Prelude.{Option, Some, None, Result, Ok, Err}
+use Rattle.std.specs.Prelude.{Option, Result}
 use Rattle.negotiation.proofs.OrderLaws.{opened, falling_within, due-is}
 
 -- ---- the pass over the sinks
@@ -195,15 +194,6 @@ module _ {timed : Bool} {sinks cs : List ℕ} {from to : ℕ} {marks : List ℕ}
   sinks-long : length (slice from to sinks) ≡ to - from
   sinks-long = length-slice from to sinks ready.within
 
-  pub tried-untimed : timed ≡ false → TriedSinks timed marks sinks cs from to (record { weighting = untimed; from = from; to = to })
-  tried-untimed t =
-      record {
-        weighting-is = rw t;
-        tried = rw t;
-        order = ready.order;
-        within = ready.within;
-      }
-
   module _ (weighs : timed ≡ true) where
     pub criticalities-within : to ≤ length cs
     criticalities-within = rw (ready.criticalities-long weighs) ready.within
@@ -243,11 +233,16 @@ module _ {timed : Bool} {sinks cs : List ℕ} {from to : ℕ} {marks : List ℕ}
           let d = due in
           omega arith
 
-      pub tried-none : place ≡ to - from → TriedSinks timed marks sinks cs from to (record { weighting = record { timed = true; criticality = 0 }; from = to; to = to })
+      pub tried-none : to ≤ from + place → TriedSinks timed marks sinks cs from to (record { weighting = record { timed = timed; criticality = 0 }; from = from + place; to = to })
       unfolding sink_due
-      tried-none all =
+      tried-none past-all =
+          let most = place_within in
+          let order = ready.order in
+          let all : place ≡ to - from = omega arith in
+          let end : from + place ≡ to = omega arith in
           let none : get_or (slice from to cs) place 0 ≡ 0 = get_or-eq_default (slice from to cs) 0 (let e = criticalities-long in omega arith) in
           let past : ltb place (length (slice from to sinks)) ≡ false = le-ltb place (length (slice from to sinks)) (let e = sinks-long in omega arith) in
+          rw end
           record {
             weighting-is = rw (weighs, ← due, none);
             tried = rw (weighs, ← due, past) (slice_empty to sinks);
@@ -256,17 +251,16 @@ module _ {timed : Bool} {sinks cs : List ℕ} {from to : ℕ} {marks : List ℕ}
           }
 
       pub tried_some :
-          place < to - from
-          → TriedSinks timed marks sinks cs from to (record { weighting = record { timed = true; criticality = get_or cs (from + place) 0 }; from = from + place; to = from + place + 1 })
+          from + place < to
+          → TriedSinks timed marks sinks cs from to (record { weighting = record { timed = timed; criticality = get_or cs (from + place) 0 }; from = from + place; to = from + place + 1 })
       unfolding sink_due
       tried_some l =
-          let i : from + place < to = omega arith in
           let w = ready.within in
           let below : ltb place (length (slice from to sinks)) ≡ true = lt-ltb place (length (slice from to sinks)) (let e = sinks-long in omega arith) in
           record {
-            weighting-is = rw (weighs, ← due, part_at from to cs place i);
+            weighting-is = rw (weighs, ← due, part_at from to cs place l);
             tried =
-                rw (weighs, ← due, below, part_at from to sinks place i)
+                rw (weighs, ← due, below, part_at from to sinks place l)
                 (slice_one sinks (from + place) (omega arith));
             order = omega arith;
             within = omega arith;

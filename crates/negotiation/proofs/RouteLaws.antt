@@ -16,7 +16,7 @@ use Rattle.job.specs.Tables.{SoundJob}
 use Rattle.job.specs.Join.{joined}
 use Rattle.negotiation.specs.Records.{Record}
 use Rattle.negotiation.specs.Machine.{Progress}
-use Rattle.negotiation.specs.Outcome.{RouteReply, unreachable_net, unreachable_place, first_progress, continued, route_refusal, refused_answer, refused_reply, route_reply_of, reached, reached_reply, tested_by, tested, route_reply}
+use Rattle.negotiation.specs.Outcome.{RouteReply, unreachable_net, unreachable_place, first_progress, continued, refused_answer, refused_reply, route_reply_of, reached, reached_reply, tested_by, tested, route_reply}
 use Rattle.negotiation.specs.Resume.{Replay, on, off, ends, not_cheapest, replay_by, replay, resumed_reply, run_from, resume_reply}
 use Rattle.negotiation.specs.Resumed.{Resumed}
 use Rattle.negotiation.specs.Demand.{Demand3}

@@ -12,13 +12,11 @@ use crate::tariff::Tariff;
 use job::{JobTables, Terms};
 
 // Every net that has sinks is due: under rule 1, and up to the iteration after which rule 2 is followed.
+#[tactic(auto, unfolding(crate::specs::Machine::all_due))]
 fn all_due(terms: Terms, iteration: u32) -> bool
     ensures { result ≡ all_due terms iteration }
 {
-    if terms.rule == 1 {
-        return true;
-    }
-    iteration <= terms.until
+    terms.rule == 1 || iteration <= terms.until
 }
 
 // One of the nodes in the log from `from` to below `to` has more users than its capacity.
@@ -44,6 +42,7 @@ fn records_crowded(log: &[u32], from: usize, until: usize, capacity: &[u8], user
         result ≡ some_over capacity.now users.now tree }
 {
     let mut at = from;
+    // No `for`: a record's length stands in the record.
     while at < until {
         let end = at + 6 + log[at + 5] as usize;
         if path_crowded(log, at + 6, end, capacity, users) {
@@ -70,19 +69,9 @@ fn due_mark(
     ensures { let taken = takes all job.now.block.capacity.now job.now.first_sink.now log.now tree_from.now tree_to.now users.now net in
         result ≡ choose taken 1 0 }
 {
-    if job.first_sink[net + 1] <= job.first_sink[net] {
-        return 0;
-    }
-    if all {
-        return 1;
-    }
-    let from = tree_from[net];
-    let to = tree_to[net];
-    if records_crowded(log, from, to, job.block.capacity, users) {
-        1
-    } else {
-        0
-    }
+    let due = job.first_sink[net] < job.first_sink[net + 1]
+        && (all || records_crowded(log, tree_from[net], tree_to[net], job.block.capacity, users));
+    due as u8
 }
 
 // Marks the nets that the iteration takes, by what stands at its start.

@@ -32,6 +32,7 @@ fn flood_row(tables: &Tables, u: usize, end: usize, reached: &mut [u8], work: &m
 }
 
 // The first place from `from` on whose sink is not marked, or how many sinks there are.
+// No Option: the count stands for none, as the next look begins at the place.
 pub fn missing_sink(reached: &[u8], sinks: &[u16], from: usize) -> usize
     requires all_below { AllBelow (length reached.now) sinks.now }
     requires from_in_bounds { from ≤ length sinks.now }
@@ -60,6 +61,7 @@ pub fn flood(tables: &Tables, source: usize, sinks: &[u16], reached: &mut [u8], 
     let mut missing = 0;
     let mut next = 0;
     let mut end = 1;
+    // No `for`: the queue grows while it is read.
     while next < end {
         missing = missing_sink(reached, sinks, missing);
         if missing == sinks.len() {

@@ -20,6 +20,7 @@ use price::{Numbers, Weighting};
 use search::{Prices, Tables};
 
 // 2^64 − 1, which no cost reaches.
+// No Option of a cost: the definition `least_asked` answers with this number too, and what is asked is only whether it is below a cost.
 const FAR: u64 = 18446744073709551615;
 
 // There is an edge from node u to v.
@@ -76,19 +77,14 @@ fn last_mark(next: usize, to: usize) -> u8
 }
 
 // The step from node u to v goes along an edge to a node without a mark, which is a goal or not as `last` says.
+#[tactic(auto, unfolding(crate::specs::ResumeSteps::step_passes))]
 fn step_passes(tables: &Tables, goals: &[u8], in_tree: &[u8], u: usize, v: usize, last: u8) -> bool
     requires graph { Graph (graph_in tables.now) × (u < length tables.now.kind.now) }
     requires goals_len { let nodes = length tables.now.kind.now in
         (length goals.now ≡ nodes) × (length in_tree.now ≡ nodes) }
     ensures { result ≡ step_passes (graph_in tables.now) goals.now in_tree.now u v last }
 {
-    if !has_edge(tables, u, v) {
-        return false;
-    }
-    if in_tree[v] != 0 {
-        return false;
-    }
-    goals[v] == last
+    has_edge(tables, u, v) && in_tree[v] == 0 && goals[v] == last
 }
 
 // The cost of the path in the log from `from` to below `to`, whose nodes are marked. None where it strays: its first node alone has a mark,
@@ -135,10 +131,7 @@ fn cost_is(log: &[u32], at: usize, cost: u64) -> bool
     requires { at + 6 ≤ length log.now }
     ensures { result ≡ cost_is (drop at log.now) (cost ∷ []) }
 {
-    if log[at + 3] as u64 != cost % 4294967296 {
-        return false;
-    }
-    log[at + 4] as u64 == cost / 4294967296
+    log[at + 3] as u64 == cost % 4294967296 && log[at + 4] as u64 == cost / 4294967296
 }
 
 // The record at `at` is whole, of this iteration and net, and its path, of two to `nodes` nodes, ends at its sink.
@@ -150,6 +143,7 @@ fn frame_follows(log: &[u32], at: usize, iteration: u32, net: u32, nodes: usize)
         return false;
     }
     let count = log[at + 5] as usize;
+    // No `&&` here: each test's refusal is an answer of its own, and in one expression each later one would take all earlier ones apart.
     if count < 2 {
         return false;
     }

@@ -18,6 +18,7 @@ pub struct Tried {
 }
 
 // The place of the first of the most critical sinks that are not joined, how many sinks there are where all are joined.
+// No Option: in the definition too the count stands for none, and a turn's sinks end there.
 fn place_due(sinks: &[u16], criticality: &[u8], in_tree: &[u8]) -> usize
     requires criticality_len { (length criticality.now ≡ length sinks.now) × AllBelow (length in_tree.now) sinks.now }
     requires all_below { AllBelow (criticality_most + 1) criticality.now }
@@ -28,11 +29,9 @@ fn place_due(sinks: &[u16], criticality: &[u8], in_tree: &[u8]) -> usize
     let mut least: u8 = 0;
     for place in 0..sinks.len() {
         let s = sinks[place] as usize;
-        if in_tree[s] != 1 {
-            if least <= criticality[place] {
-                due = place;
-                least = criticality[place] + 1;
-            }
+        if in_tree[s] != 1 && least <= criticality[place] {
+            due = place;
+            least = criticality[place] + 1;
         }
     }
     due
@@ -43,34 +42,26 @@ pub fn next_tried(job: &JobTables, from: usize, to: usize, in_tree: &[u8]) -> Tr
     requires { let j = job.now in SinksReady j.terms.timed j.sink.now j.criticality.now from to in_tree.now }
     ensures { let j = job.now in TriedSinks j.terms.timed in_tree.now j.sink.now j.criticality.now from to result }
 {
-    if !job.terms.timed {
+    let mut weighting = Weighting {
+        timed: job.terms.timed,
+        criticality: 0,
+    };
+    if !weighting.timed {
         return Tried {
-            weighting: Weighting {
-                timed: false,
-                criticality: 0,
-            },
+            weighting,
             from,
             to,
         };
     }
-    let place = place_due(&job.sink[from..to], &job.criticality[from..to], in_tree);
-    if place == to - from {
-        return Tried {
-            weighting: Weighting {
-                timed: true,
-                criticality: 0,
-            },
-            from: to,
-            to,
-        };
+    let at = from + place_due(&job.sink[from..to], &job.criticality[from..to], in_tree);
+    let mut end = to;
+    if at < to {
+        weighting.criticality = job.criticality[at] as u32;
+        end = at + 1;
     }
-    let at = from + place;
     Tried {
-        weighting: Weighting {
-            timed: true,
-            criticality: job.criticality[at] as u32,
-        },
+        weighting,
         from: at,
-        to: at + 1,
+        to: end,
     }
 }

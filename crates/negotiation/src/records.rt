@@ -19,6 +19,7 @@ fn copy_path(work: &[u64], count: usize, log: &mut [u32], at: usize)
 }
 
 // Writes the record of a turn whose path stands at the beginning of the work slice.
+// Eight parameters: the numbers are a record's words, as the definition `record_of` takes them, and go together nowhere else.
 pub fn write_record(
     log: &mut [u32],
     at: usize,

@@ -189,6 +189,7 @@ fn follow_net(
     let mut tariff = begun;
     let mut left = turns;
     let mut place = flood::missing_sink(in_tree, &job.sink[from..to], 0);
+    // No `for`: how many turns the net takes is known only when its sinks are joined.
     while place < to - from {
         if left == 0 {
             return Err(Stopped::Off(tariff.words));

@@ -76,6 +76,7 @@ pub fn drop_records(log: &[u32], from: usize, until: usize, users: &mut [u16], i
         Dropped (length marks) old users.old marks users.new in_tree.new }
 {
     let mut at = from;
+    // No `for`: a record's length stands in the record.
     while at < until {
         let end = at + 6 + log[at + 5] as usize;
         drop_path(log, at + 6, end, users, in_tree);
@@ -91,6 +92,7 @@ pub fn unmark_records(log: &[u32], from: usize, until: usize, in_tree: &mut [u8]
         Stored 0 passed in_tree.old in_tree.new }
 {
     let mut at = from;
+    // No `for`: a record's length stands in the record.
     while at < until {
         let end = at + 6 + log[at + 5] as usize;
         unmark_path(log, at + 6, end, in_tree);
@@ -108,6 +110,7 @@ pub fn add_records(log: &[u32], from: usize, until: usize, users: &mut [u16], in
         UsersAdded (length marks) passed users.old marks users.new in_tree.new }
 {
     let mut at = from;
+    // No `for`: a record's length stands in the record.
     while at < until {
         let end = at + 6 + log[at + 5] as usize;
         add_path(log, at + 6, end, users, in_tree);

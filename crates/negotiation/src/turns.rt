@@ -1,4 +1,6 @@
 // The negotiation itself: sinks within nets within iterations.
+// A run's six lists (history, users, in_tree, tree_from, tree_to, due) stay loose `&mut`s here, in take_up.rt, audit_log.rt and nets.rt:
+// what a function changes is read from its `&mut`, and with a struct of them each contract would need a clause for each list that stays.
 ghost use Rattle.std.specs.Prelude.{Bool, true, ◌++◌, ◌≡◌, ℕ, ◌+◌, ◌*◌, ◌≤◌, ◌<◌, length, get_or, drop, replicate};
 ghost use Rattle.std.proofs.Math.Seq.{slice};
 ghost use Rattle.price.specs.Bounds.{limit_most};
@@ -106,6 +108,7 @@ fn found_path(
 
 // One turn of a net for these sinks: its record is written where it fits, and its path joins the tree. The answer is the tariff after the
 // turn, none where no sink is left to be joined. Without sinks nothing is searched.
+// Nine parameters: what is read of the job is in three structs already, and the three slices that it changes stay loose.
 fn one_turn(
     tables: &Tables,
     back: &Back,

@@ -45,6 +45,7 @@ fn start(in_tree: &[u8], work: &mut [u64], n: usize) -> usize
     fill_far(work, 6 * n, 7 * n);
     let mut count = 0;
     let mut v = turn::next_marked(in_tree, 0, n);
+    // No `for`: the next place is the next tree node, many nodes on.
     while v < n {
         work[v] = 0;
         count += 1;

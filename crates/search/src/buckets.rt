@@ -44,6 +44,7 @@ pub fn lowest(head: &[u16], from: usize) -> usize
     ensures { LowestFrom head.now from result }
 {
     let mut level = from;
+    // No `for`: no last level is known here, only that some node waits.
     while head[level % BUCKETS] == 0 {
         level += 1;
     }

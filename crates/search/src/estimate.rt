@@ -35,6 +35,7 @@ pub fn scale_of(weighting: Weighting) -> u64
 }
 
 // Node u waits to spread its estimate, unless no edge leads to it. Answers how many wait.
+// kind, back and scale stay loose here and below: the definitions take them apart, and each contract would unpack a struct of them.
 fn wait_to_spread(
     kind: &[u8],
     back: &Back,

@@ -18,6 +18,7 @@ use crate::{Prices, Tables, heap, weighing};
 use price::{Numbers, Weighting};
 
 // No path; as a label: none yet.
+// No Option: the work slice holds numbers, and the specification has this one for a node without a path.
 pub const FAR: u64 = 18446744073709551615;
 
 // No label yet on a goal; elsewhere it is FAR. Every label is below both.
@@ -162,6 +163,7 @@ fn lower(work: &mut [u64], n: usize, u: usize, v: usize, d: u64)
 }
 
 // Looks at the edge from u, of label d, to v.
+// u, v and d stay loose: the definitions take them apart, and each contract would unpack a struct of them.
 fn relax(
     tables: &Tables,
     prices: &Prices,
@@ -244,6 +246,7 @@ pub fn settle_all(
         best: FAR,
         count: waits,
     };
+    // No `for`: each node that is settled may let others wait.
     while 0 < r.count {
         let u = (work[n] / heap::UPPER) as usize;
         if r.best < work[u] + last_step {

@@ -183,6 +183,7 @@ pub fn search(
 }
 
 // The same in a timed job: table 9 is tested with tables 1 to 4, and the prices are those for a sink of this criticality.
+// Its parameters after the tables are those of the call for C, in its order.
 pub fn timed_search(
     tables: &Tables,
     delay: &[u16],

@@ -17,6 +17,7 @@ fn carry_up(work: &mut [u64], n: usize, from: usize)
     ensures { Tournament n work.new × SameBut (n + 1) (2 * n) work.old work.new }
 {
     let mut i = from;
+    // No `for`: the entry's number halves on the way up.
     while 0 < i {
         let least = lesser_child(work, n, i);
         if work[n + i] == least {
@@ -33,6 +34,7 @@ fn lower_above(work: &mut [u64], n: usize, from: usize, key: u64)
     ensures { Tournament n work.new × SameBut (n + 1) (2 * n) work.old work.new }
 {
     let mut i = from;
+    // No `for`: the entry's number halves on the way up.
     while 0 < i {
         if work[n + i] <= key {
             return;
@@ -62,6 +64,7 @@ pub fn nearest(work: &[u64], n: usize) -> usize
     ensures { (result < n) × (leaf_at n work.now result ≡ entry_at n work.now 1) }
 {
     let mut i = 1;
+    // No `for`: the entry's number doubles on the way down.
     while i < n {
         let right = if work[n + 2 * i] == work[n + i] { 0 } else { 1 };
         i = 2 * i + right;

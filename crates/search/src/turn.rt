@@ -44,6 +44,7 @@ fn pass_over(in_tree: &[u8], from: usize, n: usize) -> usize
     ensures { PassedOver in_tree.now from n result }
 {
     let mut v = from;
+    // No `for`: it goes on in stretches, and the place that it came to is the answer.
     while v + STRETCH <= n {
         if some_marked(in_tree, v, v + STRETCH) {
             return v;
@@ -54,6 +55,7 @@ fn pass_over(in_tree: &[u8], from: usize, n: usize) -> usize
 }
 
 // The first tree node from `from` on, n where there is none.
+// No Option: n stands for none, where the loops that ask end.
 pub fn next_marked(in_tree: &[u8], from: usize, n: usize) -> usize
     requires { (from ≤ n) × (n ≤ nodes_most) × (n ≤ length in_tree.now) }
     ensures { NextMarked in_tree.now from n result }
@@ -74,6 +76,7 @@ pub fn mark_tree(in_tree: &[u8], work: &mut [u64], n: usize) -> usize
     fill_far(work, n);
     let mut count = 0;
     let mut v = next_marked(in_tree, 0, n);
+    // No `for`: the next place is the next tree node, many nodes on.
     while v < n {
         work[v] = 0;
         heap::put(work, n, count, v, 0);
@@ -115,6 +118,7 @@ fn least_price(tables: &Tables, prices: &Prices, sinks: &[u16], work: &[u64]) ->
 }
 
 // The first listed node of this label.
+// No Option: where it is asked some listed node has the label, so that none needs no case.
 fn first_at(sinks: &[u16], work: &[u64], n: usize, d: u64) -> usize
     requires { (n ≤ nodes_most) × (n ≤ length work.now) }
     ensures { FirstAt n d sinks.now work.now result }
@@ -135,6 +139,7 @@ fn path_length(in_tree: &[u8], work: &[u64], n: usize, sink: usize) -> usize
 {
     let mut v = sink;
     let mut count = 1;
+    // No `for`: it follows the predecessors to the tree; how many there are is the answer.
     while in_tree[v] != 1 {
         v = (work[n + v] % heap::UPPER) as usize;
         count += 1;

@@ -13,6 +13,7 @@ pub fn digit_count(n: u64) -> usize
 {
     let mut count = 1;
     let mut left = n / 10;
+    // No `for`: the number itself tells how many digits it has.
     while 0 < left {
         left = left / 10;
         count += 1;
@@ -27,9 +28,7 @@ pub fn put_number(buffer: &mut [u8], at: usize, n: u64) -> usize
 {
     let count = digit_count(n);
     let mut left = n;
-    let mut k = count;
-    while 0 < k {
-        k -= 1;
+    for k in (0..count).rev() {
         buffer[at + k] = (48 + left % 10) as u8;
         left = left / 10;
     }

@@ -53,6 +53,7 @@ fn further_digits(text: &[u8], at: usize, first: u32) -> Field
     let mut value = first;
     let mut next = at;
     let mut left: u32 = 5;
+    // No `for`: the first byte that is no digit ends it, and the place of that byte is part of the answer.
     while 0 < left && next < text.len() && is_digit(text[next]) {
         value = value * 10 + (text[next] - b'0') as u32;
         next += 1;

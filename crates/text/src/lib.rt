@@ -240,6 +240,7 @@ fn if_timed(timed: bool, count: usize) -> usize
 
 // Writes the job that was read into the tables that were lent, or names the lowest that is too short for it. A timed job that exceeds its
 // bounds is refused after that.
+// The tables that are written stay loose slices, here and in read_job, for the reason that copy.rt gives at JobRead.
 fn store_job(
     counts: JobCounts,
     read: &JobRead,

@@ -1,4 +1,5 @@
 // The S and T lines.
+// The tables that are written stay loose slices, for the reason that copy.rt gives at JobRead.
 ghost use Rattle.std.specs.Prelude.{List, [], ◌≡◌, ℕ, ◌+◌, ◌-◌, ◌≤◌, ◌<◌, ltb, eqb, length, drop};
 ghost use Rattle.search.specs.Replies.{sinks_most};
 ghost use Rattle.price.specs.Bounds.{nodes_most};
@@ -77,6 +78,7 @@ fn source_line(
 }
 
 // A T line of net i after this many sinks. The net's pins so far bear its stamp. An untimed line has no criticality, which counts as 0.
+// Eight parameters: one function calls this, so that a struct of some of them would be made for one call.
 fn sink_line(
     text: &[u8],
     at: usize,
@@ -271,6 +273,7 @@ pub fn read_nets(
         sinks: 0,
         first: 0,
     };
+    // No `for`: a line's length is known only once it is read.
     while c.at < text.len() {
         c = match net_line(
             text,

@@ -1,4 +1,5 @@
 // All lines of a job text, read into tables that have room for any job.
+// The tables that are written stay loose slices, for the reason that copy.rt gives at JobRead.
 ghost use Rattle.std.specs.Prelude.{◌≡◌, ◌≤◌, ℕ, length, drop};
 ghost use Rattle.text.specs.JobText.{read_text};
 ghost use Rattle.text.specs.Steps.{Within, NetsEnd};

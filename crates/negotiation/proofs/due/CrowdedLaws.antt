@@ -1,19 +1,17 @@
 -- The loops that look for an overfull node among a net's nodes in the log.
 --     over_none, room-node, over-node   the nodes of one path
 --     room_record, over_record          the paths of the net's records, one after the other
---     takes_none, -all, -crowded        a net's mark
 -- Assumes nothing.
-use mathlib.Core.Bool.{Bool, true, false}
+use mathlib.Core.Bool.{true, false}
 use mathlib.Core.List.{List, [], ◌∷◌, ◌++◌}
 use mathlib.Core.Path.{◌≡◌, refl, ◌∙◌}
 use Prim.Native.Nat.{ℕ, ◌+◌, ◌≤◌, ◌<◌}
 use lib.ListN.{length, get_or}
 use lib.Seq.{slice, slice-cons}
 use borrow.Author.Tests.{lt-ltb, le-ltb, not-true, not-false}
-use Rattle.price.specs.Test.{choose}
 use Rattle.price.specs.Lists.{every}
 use Rattle.negotiation.specs.Records.{decode, path_nodes}
-use Rattle.negotiation.specs.Steps.{roomy, some_over, takes}
+use Rattle.negotiation.specs.Steps.{roomy, some_over}
 use Rattle.negotiation.proofs.MemberLaws.{every_append}
 use Rattle.job.proofs.MarkLaws.{Between, passed_more, slice_parts}
 use Rattle.negotiation.proofs.RegionLaws.{Walking, walking_nodes, walking_more, passing-next}
@@ -71,18 +69,3 @@ module _ (capacities users : List ℕ) {log : List ℕ} {from until at : ℕ}
       let later : List ℕ = path_nodes (passing-next s.rest l s.walk).later in
       rw (walking_nodes s l)
       (over-append capacities users (path_nodes s.passed) (path ++ later) s.done ∙ over-left capacities users path later h)
-
--- ---- a net's mark
-
-module _ (all : Bool) (capacities firsts log from to users : List ℕ) (k : ℕ) where
-  pub takes_none : get_or firsts (k + 1) 0 ≤ get_or firsts k 0 → ◌≡◌ {A = ℕ} 0 (choose (takes all capacities firsts log from to users k) 1 0)
-  takes_none h = rw (le-ltb (get_or firsts k 0) (get_or firsts (k + 1) 0) h)
-
-  module _ (some : get_or firsts k 0 < get_or firsts (k + 1) 0) where
-    pub takes_all : all ≡ true → ◌≡◌ {A = ℕ} 1 (choose (takes all capacities firsts log from to users k) 1 0)
-    takes_all e = rw (lt-ltb (get_or firsts k 0) (get_or firsts (k + 1) 0) some, e)
-
-    pub takes-crowded :
-        (t : Bool) → all ≡ false → some_over capacities users (path_nodes (decode (slice (get_or from k 0) (get_or to k 0) log))) ≡ t
-        → ◌≡◌ {A = ℕ} (choose t 1 0) (choose (takes all capacities firsts log from to users k) 1 0)
-    takes-crowded t e is = rw (lt-ltb (get_or firsts k 0) (get_or firsts (k + 1) 0) some, e, is)

@@ -1,6 +1,6 @@
 -- The loops that test a lent record: over the row of a node, and over the words of a path.
 --     RowLeft, row_first, -here, -next, -none     the row that is left has the target or not
---     step_off, -marked, -goal, step_answer       the tests of one step
+--     step_answer                                 the tests of one step
 --     price-found, price-block                    the price of the node that it goes to
 --     Passing, pass_first, -off, -out             the pass over the words, at first
 --     step_strays, step_node, cost-fits, step_on  a step more
@@ -78,19 +78,6 @@ row-none {b} {u} {v} {e} left l =
     left.left_is ∙ rw (same, slice_empty (row_start b (u + 1)) b.edge_targets)
 
 -- ---- one step of a path
-
-module _ (b : Block) (goals marks : List ℕ) (u v last : ℕ) where
-  pub step_off : has_edge b u v ≡ false → false ≡ step_passes b goals marks u v last
-  unfolding step_passes
-  step_off e = rw e
-
-  pub step_marked : has_edge b u v ≡ true → (get_or marks v 0 ≡ 0 → ⊥) → false ≡ step_passes b goals marks u v last
-  unfolding step_passes
-  step_marked e m = rw (e, ne_eqb (get_or marks v 0) 0 m)
-
-  pub step_goal : has_edge b u v ≡ true → get_or marks v 0 ≡ 0 → eqb (get_or goals v 0) last ≡ step_passes b goals marks u v last
-  unfolding step_passes
-  step_goal e m = rw (e, eq-eqb (get_or marks v 0) 0 m)
 
 -- capacities don't matter: what is said of the graph is said of the block
 module _ (ks cs fs ts goals marks : List ℕ) (u v next to : ℕ) where

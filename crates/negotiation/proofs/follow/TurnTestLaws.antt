@@ -1,5 +1,5 @@
 -- The test of one record at a place of the log: its frame, then one pass over its path, then the two words of its cost.
---     cost-low, cost-high, cost_named       the words of a cost
+--     cost_named                            the cost that a record's words name
 --     turn_unframed                         the frame doesn't follow
 --     turn-ready                            the pass can be made
 --     turn_strays, turn_dear                the path strays, or costs something else
@@ -8,12 +8,10 @@
 use mathlib.Core.Bool.{Bool, true, false}
 use mathlib.Core.List.{List, [], ◌∷◌}
 use mathlib.Core.Path.{◌≡◌, sym, ◌∙◌, ap, subst}
-use Prim.Native.Nat.{ℕ, ◌+◌, ◌*◌, ◌-◌, ◌/◌, ◌%◌, ◌^◌}
+use Prim.Native.Nat.{ℕ, ◌+◌, ◌*◌, ◌-◌, ◌^◌}
 use native.Mathlib.Omega.{arith}
-use lib.Dec.{eqb}
 use lib.ListN.{get_or, drop}
 use lib.Seq.{slice, get_or-drop}
-use borrow.Author.Tests.{eq-eqb, ne_eqb}
 use Rattle.std.specs.Prelude.{Option, Some, None}
 use Rattle.price.specs.Test.{choose}
 use Rattle.search.specs.Block.{Block, nodes}
@@ -25,14 +23,6 @@ use Rattle.negotiation.proofs.FrameLaws.{path_count, path_read, frame_at}
 
 -- ---- the words of a cost
 
-module _ (log : List ℕ) (at cost : ℕ) where
-  pub cost-low : (get_or log (at + 3) 0 ≡ cost % 2 ^ 32 → ⊥) → false ≡ cost_is (drop at log) (cost ∷ [])
-  cost-low off = rw (get_or-drop at log 3 0, ne_eqb (get_or log (at + 3) 0) (cost % 2 ^ 32) off)
-
-  pub cost-high : get_or log (at + 3) 0 ≡ cost % 2 ^ 32 → eqb (get_or log (at + 4) 0) (cost / 2 ^ 32) ≡ cost_is (drop at log) (cost ∷ [])
-  cost-high low = rw (get_or-drop at log 3 0, get_or-drop at log 4 0, eq-eqb (get_or log (at + 3) 0) (cost % 2 ^ 32) low)
-
--- the cost that they name
 pub cost_named : (log : List ℕ) (at : ℕ) → get_or log (at + 3) 0 + get_or log (at + 4) 0 * 2 ^ 32 ≡ named_cost (drop at log)
 cost_named log at = rw (get_or-drop at log 3 0, get_or-drop at log 4 0)
 

@@ -1,8 +1,9 @@
 -- Laws of the places that a net lists and of the entries at places, taken one after the other as the loops do it.
 -- Assumes nothing.
 use mathlib.Core.Bool.{true, false}
-use mathlib.Core.List.{List, [], ◌∷◌, ◌++◌, map-append, append_assoc}
-use mathlib.Core.Path.{◌≡◌, refl, sym, ◌∙◌}
+use mathlib.Core.List.{List, [], ◌∷◌, ◌++◌, map, map-append, append_assoc}
+use mathlib.Core.Path.{◌≡◌, refl, sym, ◌∙◌, ap}
+use Rattle.std.proofs.lemmas.List.{get_or_read_under}
 use Prim.Native.Nat.{ℕ, suc, ◌+◌, ◌-◌, ◌≤◌, ◌<◌, zero-le}
 use native.Mathlib.Nat.{le_refl}
 use native.Mathlib.Numerals.{add-one}
@@ -125,29 +126,34 @@ taking-all {to} {p} t end before taken has-taken =
 
 -- ---- the entries at places
 
--- the entries at the first k places stand first
-pub record Gathering (table places : List ℕ) (count : ℕ) (old new : List ℕ) (k : ℕ) : Type 0 where
-  pub high : k ≤ count
-  pub long : length new ≡ length old
-  pub gathered : take k new ≡ entries_at table (take k places)
+-- the entries at the first k places stand first, whatever is read past the table's end
+module _ {A : Type 0} (table : List A) (places : List ℕ) (count : ℕ) where
+  pub record Gathering (old new : List A) (k : ℕ) : Type 0 where
+    pub high : k ≤ count
+    pub long : length new ≡ length old
+    pub gathered : (other : A) → take k new ≡ map (λ p. get_or table p other) (take k places)
 
-pub gathering_none : (table places : List ℕ) (count : ℕ) (old : List ℕ) → Gathering table places count old old 0
-gathering_none table places count old = record { high = zero-le; long = refl; gathered = refl }
+  pub gathering_none : (old : List A) → Gathering old old 0
+  gathering_none old = record { high = zero-le; long = refl; gathered = λ other. refl }
 
-pub gathering_more : {table places : List ℕ} {count : ℕ} {old new : List ℕ} {k : ℕ} → k < count → count ≤ length places → count ≤ length old → Gathering table places count old new k → Gathering table places count old (set new k (get_or table (get_or places k 0) 0)) (k + 1)
-gathering_more {table} {places} {count} {old} {new} {k} h few room g =
-    let entry = get_or table (get_or places k 0) 0 in
-    let here : k < length new = omega (arith, g.long) in
-    let more : take (suc k) places ≡ take k places ++ (get_or places k 0 ∷ []) = take-suc places k 0 (omega arith) in
-    record {
-      high = omega arith;
-      long = length-set new k entry ∙ g.long;
-      gathered =
-          rw (add-one, take-suc-set new k entry here, more, g.gathered) (sym (map-append (λ p. get_or table p 0) (take k places) (get_or places k 0 ∷ [])));
-    }
+  pub gathering_more :
+      {old new : List A} {k : ℕ} {entry : A} → k < count → count ≤ length places → count ≤ length old → get_or places k 0 < length table
+      → entry ≡ get_or table (get_or places k 0) entry
+      → Gathering old new k → Gathering old (set new k entry) (k + 1)
+  gathering_more {old} {new} {k} {entry} h few room within is g =
+      let here : k < length new = omega (arith, g.long) in
+      let more : take (suc k) places ≡ take k places ++ (get_or places k 0 ∷ []) = take-suc places k 0 (omega arith) in
+      record {
+        high = omega arith;
+        long = length-set new k entry ∙ g.long;
+        gathered = λ other.
+            let e : entry ≡ get_or table (get_or places k 0) other = get_or_read_under table (get_or places k 0) (length table) entry other is within refl in
+            rw (add-one, take-suc-set new k entry here, more, g.gathered other, map-append (λ p. get_or table p other) (take k places) (get_or places k 0 ∷ []))
+            (ap (λ (x : A). map (λ p. get_or table p other) (take k places) ++ (x ∷ [])) e);
+      }
 
-pub gathering_all : {table places : List ℕ} {count : ℕ} {old new : List ℕ} {k : ℕ} → Gathering table places count old new k → count ≤ k → take count new ≡ entries_at table (take count places)
-gathering_all {count} {k} g end = let e : k ≡ count = omega (arith, g.high) in rw e at g.gathered
+  pub gathering_all : {old new : List A} {k : ℕ} → Gathering old new k → count ≤ k → (other : A) → take count new ≡ map (λ p. get_or table p other) (take count places)
+  gathering_all {k = k} g end = let e : k ≡ count = omega (arith, g.high) in rw e at g.gathered
 
 -- each of the places is one of the table
 pub gather_within : (n count k : ℕ) (places : List ℕ) → AllBelow n (take count places) → k < count → count ≤ length places → get_or places k 0 < n

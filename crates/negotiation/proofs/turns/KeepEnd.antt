@@ -22,7 +22,7 @@ use Rattle.negotiation.specs.Outcome.{continued, iterations_left, made_from, rou
 use Rattle.negotiation.specs.Steps.{SameFrom, Overflows, TurnDone}
 use Rattle.negotiation.specs.declared.tariff.Tariff.{Tariff}
 use Rattle.negotiation.specs.declared.turns.NoRoom.{NoRoom}
-use Rattle.std.specs.Prelude.{Option, Some, None, Result, Ok, Err}
+use Rattle.std.specs.Prelude.{Option, Result, Err}
 use Rattle.negotiation.specs.declared.RouteAnswer.{RouteAnswer}
 use Rattle.negotiation.specs.declared.Outcome.TheVariants.{Accepted, LogFull, Limit}
 use Rattle.negotiation.proofs.StateLaws.{nets-iteration, nets-factor, state-iteration}

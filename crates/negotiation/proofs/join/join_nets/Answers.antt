@@ -35,11 +35,11 @@ loop-net-preserved c =
 pub overflow_cast-firsts-2 : goal.overflow_cast-firsts-2
 overflow_cast-firsts-2 c = omega (arith, joining_few c.loop-net.invariant c.requires.joinable)
 
-pub offset_bounds-firsts-source : goal.offset_bounds-firsts-source
-offset_bounds-firsts-source c = omega (arith, c.loop-net.invariant.firsts-long)
+pub offset_bounds-firsts-job : goal.offset_bounds-firsts-job
+offset_bounds-firsts-job c = omega (arith, c.loop-net.invariant.firsts-long)
 
-pub bounds-firsts-source : goal.bounds-firsts-source
-bounds-firsts-source c = omega (arith, c.loop-net.invariant.firsts-long)
+pub bounds-firsts-job : goal.bounds-firsts-job
+bounds-firsts-job c = omega (arith, c.loop-net.invariant.firsts-long)
 
 pub shape_of-firsts : goal.shape_of-firsts
 shape_of-firsts c = length-set c.loop-net.firsts _ _ ∙ c.loop-net.invariant.firsts-long
@@ -49,5 +49,5 @@ shape_of-places c = c.loop-net.invariant.places-long
 
 pub returns : goal.returns
 returns c =
-    let end : c.loop-net.net ≡ length c.args.source.now = omega arith in
+    let end : c.loop-net.net ≡ length c.args.job.now.source.now = omega arith in
     rw end at (joining_all c.loop-net.invariant c.loop-net-test.false c.requires.source_in_bounds.0)

@@ -29,12 +29,12 @@ gather-requires c =
       all_below = places-below c.requires.joinable c.join_nets-count.ensures;
     }
 
-pub gather_bytes-requires : goal.gather_bytes-requires
-gather_bytes-requires c =
+pub gather-requires-then-job : goal.gather-requires-then-job
+gather-requires-then-job c =
     let weighs : c.args.job.now.terms.timed ≡ true = c.if-job.true in
     let low = places-below c.requires.joinable c.join_nets-count.ensures in
     record {
-      count_in_bounds = (c.join_nets-count.ensures.within, few-bytes (goal.at.gather_bytes-requires c).After-join_nets-count);
+      count_in_bounds = (c.join_nets-count.ensures.within, few-bytes (goal.at.gather-requires-then-job c).After-join_nets-count);
       all_below =
           subst (λ (k : ℕ). AllBelow k (take c.join_nets-count.result c.join_nets-count.new.places))
           (sym (c.requires.criticality_len.0 weighs)) low;
@@ -42,15 +42,15 @@ gather_bytes-requires c =
 
 pub returns-then-job : goal.returns-then-job
 returns-then-job c =
-    let bytes = c.gather_bytes in
+    let bytes = c.gather-then-job in
     let counted = (goal.at.returns-then-job c).After-join_nets-count in
     let room : c.join_nets-count.result ≤ length c.gather.new.entries = omega (arith, few counted, c.requires.source_in_bounds.1, c.gather.auto.entries) in
     let room-too : c.join_nets-count.result ≤ length bytes.new.entries = omega (arith, few-bytes counted, bytes.auto.entries) in
-    tables_joined c.requires.joinable c.join_nets-count.ensures room room-too (ends counted) c.gather.ensures (λ w. bytes.ensures)
+    tables_joined c.requires.joinable c.join_nets-count.ensures room room-too (ends counted) (c.gather.ensures 0) (λ w. bytes.ensures 0)
 
 pub returns-else-job : goal.returns-else-job
 returns-else-job c =
     let counted = (goal.at.returns-else-job c).After-join_nets-count in
     let room : c.join_nets-count.result ≤ length c.gather.new.entries = omega (arith, few counted, c.requires.source_in_bounds.1, c.gather.auto.entries) in
-    tables_joined c.requires.joinable c.join_nets-count.ensures room (few-bytes counted) (ends counted) c.gather.ensures
+    tables_joined c.requires.joinable c.join_nets-count.ensures room (few-bytes counted) (ends counted) (c.gather.ensures 0)
     (λ w. absurd (true≢false (sym w ∙ c.if-job.false)))

@@ -1,7 +1,7 @@
 -- `negotiation::take_up::follow_nets` meets its contract: from any progress at which an iteration opens so, the nets passed follow (`TakeNetLaws`). What is
 -- safe rests on the one that is asked for.
 -- Assumes nothing.
-use Prim.Native.Nat.{◌-◌, ◌*◌, ◌≤◌}
+use Prim.Native.Nat.{◌*◌, ◌≤◌}
 use lib.ListN.{length}
 use Rattle.job.specs.Lent.{job_in}
 use Rattle.negotiation.specs.Machine.{Progress}

@@ -8,6 +8,3 @@ use Rattle.text.proofs.decimal.put_number.Given as goal
 
 abbrev pub invariant-loop-k : goal.invariant-loop-k
 invariant-loop-k l = (l.count ≡ length (decimal l.n)) × Writing l.at l.n l.initial.buffer l.buffer l.left l.k
-
-abbrev pub decreases-loop-k : goal.decreases-loop-k
-decreases-loop-k l = l.k

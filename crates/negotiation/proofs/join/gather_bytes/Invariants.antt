@@ -1,7 +1,0 @@
--- `join::gather_bytes` meets its contract. The loop's invariant: the entries at the places passed are gathered.
--- Assumes nothing.
-use Rattle.negotiation.proofs.join.JoinStepLaws.{Gathering}
-use Rattle.negotiation.proofs.join.gather_bytes.Given as goal
-
-abbrev pub invariant-loop-k : goal.invariant-loop-k
-invariant-loop-k l = Gathering l.table l.places l.count l.initial.entries l.entries l.k
