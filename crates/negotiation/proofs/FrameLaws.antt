@@ -3,6 +3,7 @@
 --     path_read, last_read             its path and its last node, by their places in the log
 --     FrameAt, frame_at, no_frame      the record at a place of the log, and its refusal
 --     frame_ends                       what is left to test after all but the sink
+--     frame_tests, frame_by            the tests that the code makes say the same
 -- Assumes nothing.
 use mathlib.Core.Bool.{Bool, true, false}
 use mathlib.Core.List.{List}
@@ -15,7 +16,7 @@ use lib.ListN.{length, get_or, take, drop, length-drop}
 use lib.Seq.{slice, get_or-take, get_or-drop, drop-drop}
 use borrow.Author.Tests.{eqb-true, eq-eqb, leb-true, le-leb}
 use Rattle.price.specs.Test.{both}
-use Rattle.price.proofs.TestLaws.{by_test, both_left, both_right}
+use Rattle.price.proofs.TestLaws.{by_test, both_left, both_right, true≢false}
 use Rattle.price.proofs.ListLaws.{part_slice}
 use Rattle.negotiation.specs.Resume.{record_path, whole_record, ends_at}
 use Rattle.negotiation.specs.ResumeSteps.{frame_follows}
@@ -156,3 +157,56 @@ module _ (most iteration net : ℕ) (log : List ℕ) (at : ℕ) where
         eq-eqb (get_or log at 0) iteration of-iteration,
         eq-eqb (get_or log (at + 1) 0) net of_net_lem,
       )
+
+  -- the tests that the code makes, in its order
+  abbrev pub frame_tests : Bool
+  frame_tests =
+      both (leb 6 (length log - at))
+      (both (leb 2 (path_count log at))
+      (both (leb (path_count log at) most)
+      (both (leb (6 + path_count log at) (length log - at))
+      (both (eqb (get_or log at 0) iteration)
+      (both (eqb (get_or log (at + 1) 0) net) (eqb (get_or log (at + 5 + path_count log at) 0) (get_or log (at + 2) 0)))))))
+
+  frame-tested : FrameAt most iteration net log at → frame_tests ≡ true
+  frame-tested f =
+      let long = f.long in
+      rw (
+        le-leb 6 (length log - at) (omega arith),
+        le-leb 2 (path_count log at) f.two,
+        le-leb (path_count log at) most f.few,
+        le-leb (6 + path_count log at) (length log - at) (omega arith),
+        eq-eqb (get_or log at 0) iteration f.iteration-is,
+        eq-eqb (get_or log (at + 1) 0) net f.net-is,
+      )
+      (eq-eqb (get_or log (at + 5 + path_count log at) 0) (get_or log (at + 2) 0) f.ends)
+
+  tested-frame : frame_tests ≡ true → frame_follows most iteration net (drop at log) ≡ true
+  tested-frame t =
+      let end : Bool = eqb (get_or log (at + 5 + path_count log at) 0) (get_or log (at + 2) 0) in
+      let with_net : Bool = both (eqb (get_or log (at + 1) 0) net) end in
+      let with_iteration : Bool = both (eqb (get_or log at 0) iteration) with_net in
+      let with_long : Bool = both (leb (6 + path_count log at) (length log - at)) with_iteration in
+      let with_few : Bool = both (leb (path_count log at) most) with_long in
+      let with_two : Bool = both (leb 2 (path_count log at)) with_few in
+      let two : with_two ≡ true = both_right (leb 6 (length log - at)) with_two t in
+      let few : with_few ≡ true = both_right (leb 2 (path_count log at)) with_few two in
+      let long : with_long ≡ true = both_right (leb (path_count log at) most) with_long few in
+      let of-iteration : with_iteration ≡ true = both_right (leb (6 + path_count log at) (length log - at)) with_iteration long in
+      let of-net : with_net ≡ true = both_right (eqb (get_or log at 0) iteration) with_net of-iteration in
+      sym
+      (frame_ends
+      (leb-true (6 + path_count log at) (length log - at) (both_left (leb (6 + path_count log at) (length log - at)) with_iteration long))
+      (leb-true 2 (path_count log at) (both_left (leb 2 (path_count log at)) with_few two))
+      (leb-true (path_count log at) most (both_left (leb (path_count log at) most) with_long few))
+      (eqb-true (get_or log at 0) iteration (both_left (eqb (get_or log at 0) iteration) with_net of-iteration))
+      (eqb-true (get_or log (at + 1) 0) net (both_left (eqb (get_or log (at + 1) 0) net) end of-net)))
+      ∙ both_right (eqb (get_or log (at + 1) 0) net) end of-net
+
+  -- what the tests say is what is asked
+  pub frame_by : {r : Bool} → r ≡ frame_tests → r ≡ frame_follows most iteration net (drop at log)
+  frame_by e =
+      e
+      ∙ by_test frame_tests
+      (λ t. t ∙ sym (tested-frame t))
+      (λ n. n ∙ no_frame (λ f. true≢false (sym (frame-tested f) ∙ n)))

@@ -143,23 +143,12 @@ fn frame_follows(log: &[u32], at: usize, iteration: u32, net: u32, nodes: usize)
         return false;
     }
     let count = log[at + 5] as usize;
-    // No `&&` here: each test's refusal is an answer of its own, and in one expression each later one would take all earlier ones apart.
-    if count < 2 {
-        return false;
-    }
-    if nodes < count {
-        return false;
-    }
-    if log.len() - at < 6 + count {
-        return false;
-    }
-    if log[at] != iteration {
-        return false;
-    }
-    if log[at + 1] != net {
-        return false;
-    }
-    log[at + 5 + count] == log[at + 2]
+    2 <= count
+        && count <= nodes
+        && 6 + count <= log.len() - at
+        && log[at] == iteration
+        && log[at + 1] == net
+        && log[at + 5 + count] == log[at + 2]
 }
 
 // The words of the record at the tariff's place, none where it doesn't follow; its path is marked.

@@ -36,29 +36,14 @@ pub struct HeadRead {
 }
 
 // The counts and the limit are within their bounds.
-// Early returns: of one `&&` over all seven tests the check doesn't tell which one failed, and the proof didn't close.
+#[tactic(auto, unfolding(crate::specs::JobText::head_within))]
 fn head_within(nodes: u32, edges: u32, nets: u32, limit: u32) -> bool
     ensures { result ≡ head_within (nodes ∷ edges ∷ nets ∷ limit ∷ []) }
 {
-    if nodes < 1 {
-        return false;
-    }
-    if bounds::NODES_MOST < nodes {
-        return false;
-    }
-    if bounds::EDGES_MOST < edges {
-        return false;
-    }
-    if nets < 1 {
-        return false;
-    }
-    if bounds::NETS_MOST < nets {
-        return false;
-    }
-    if limit < 1 {
-        return false;
-    }
-    limit <= bounds::LIMIT_MOST
+    (1..=bounds::NODES_MOST).contains(&nodes)
+        && edges <= bounds::EDGES_MOST
+        && (1..=bounds::NETS_MOST).contains(&nets)
+        && (1..=bounds::LIMIT_MOST).contains(&limit)
 }
 
 // The F line, which stands at the beginning of the text.

@@ -1,5 +1,5 @@
 -- The first line: the bounds of its counts, what it gives by them, and the lines before the nodes.
---     head_nodes-low to head_limit, head_bounds   the bounds, one by one and where all are kept
+--     head_bounds                                 the bounds where all are kept
 --     head_malformed, -beyond, -read              1, 2, or the values
 --     head_read_on, -stopped, -refused            the line with the terms after it, or the refusal
 --     head_counts, head_place                     the counts, and the place where the line ends
@@ -7,10 +7,10 @@
 use mathlib.Core.Bool.{true, false}
 use mathlib.Core.List.{List, [], ◌∷◌}
 use mathlib.Core.Path.{◌≡◌, refl, ◌∙◌, sym, ap}
-use Prim.Native.Nat.{ℕ, ◌≤◌, ◌<◌}
+use Prim.Native.Nat.{ℕ, ◌≤◌}
 use lib.Dec.{leb}
 use lib.ListN.{length, drop}
-use borrow.Author.Tests.{le-leb, lt-leb, leb-true}
+use borrow.Author.Tests.{leb-true}
 use Rattle.price.specs.Test.{both}
 use Rattle.price.specs.Bounds.{nodes_most, limit_most}
 use Rattle.price.proofs.TestLaws.{both_left, both_right}
@@ -30,40 +30,6 @@ use Rattle.text.specs.declared.place.LineRefusal.{LineRefusal}
 use Rattle.text.specs.declared.optional.TermsRead.{TermsRead}
 use Rattle.text.specs.declared.head.Head.{Head}
 use Rattle.text.proofs.JudgedLaws.{line-malformed, line_taken, judged-beyond, judged-taken, judged-values}
-
-module _ (n e t l : ℕ) where
-  pub head_nodes-low : n < 1 → head_within (n ∷ e ∷ t ∷ l ∷ []) ≡ false
-  unfolding head_within
-  head_nodes-low a = rw (lt-leb 1 n a)
-
-  module _ (n-some : 1 ≤ n) where
-    pub head_nodes-high : 4096 < n → head_within (n ∷ e ∷ t ∷ l ∷ []) ≡ false
-    unfolding head_within
-    head_nodes-high a = rw (le-leb 1 n n-some, lt-leb n 4096 a)
-
-    module _ (n-most : n ≤ 4096) where
-      pub head_edges-high : 32768 < e → head_within (n ∷ e ∷ t ∷ l ∷ []) ≡ false
-      unfolding head_within
-      head_edges-high a = rw (le-leb 1 n n-some, le-leb n 4096 n-most, lt-leb e 32768 a)
-
-      module _ (e-most : e ≤ 32768) where
-        pub head_nets-low : t < 1 → head_within (n ∷ e ∷ t ∷ l ∷ []) ≡ false
-        unfolding head_within
-        head_nets-low a = rw (le-leb 1 n n-some, le-leb n 4096 n-most, le-leb e 32768 e-most, lt-leb 1 t a)
-
-        module _ (t_some : 1 ≤ t) where
-          pub head_nets-high : 512 < t → head_within (n ∷ e ∷ t ∷ l ∷ []) ≡ false
-          unfolding head_within
-          head_nets-high a = rw (le-leb 1 n n-some, le-leb n 4096 n-most, le-leb e 32768 e-most, le-leb 1 t t_some, lt-leb t 512 a)
-
-          module _ (t_most : t ≤ 512) where
-            pub head_limit_low : l < 1 → head_within (n ∷ e ∷ t ∷ l ∷ []) ≡ false
-            unfolding head_within
-            head_limit_low a = rw (le-leb 1 n n-some, le-leb n 4096 n-most, le-leb e 32768 e-most, le-leb 1 t t_some, le-leb t 512 t_most, lt-leb 1 l a)
-
-            pub head_limit : 1 ≤ l → head_within (n ∷ e ∷ t ∷ l ∷ []) ≡ leb l 100
-            unfolding head_within
-            head_limit a = rw (le-leb 1 n n-some, le-leb n 4096 n-most, le-leb e 32768 e-most, le-leb 1 t t_some, le-leb t 512 t_most, le-leb 1 l a)
 
 head_bounds : (n edges nets limit : ℕ) → head_within (n ∷ edges ∷ nets ∷ limit ∷ []) ≡ true → CountsWithin n edges nets
 unfolding head_within
