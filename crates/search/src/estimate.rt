@@ -65,6 +65,7 @@ fn wait_to_spread(
 }
 
 // Node u gets its estimate. It waits to spread it, and to be expanded if it has a distance.
+#[inline(always)]
 fn give(
     kind: &[u8],
     back: &Back,
