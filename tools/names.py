@@ -2,8 +2,8 @@
 """Whether the documents name what is there: tools/names.py
 
 Every name in backticks in README.md, CONTRIBUTING.md and docs/*.md stands in the tree, as a word of a source or as a file, and every
-relative link leads to a file, its anchor to a heading. Prints each that doesn't and answers 1. docs/PORT.md and the notes in docs/changes name things as they were and are left out,
-but for their links."""
+relative link leads to a file, its anchor to a heading. Prints each that doesn't and answers 1. docs/PORT.md, docs/DESIGN-PASS.md and the
+notes in docs/changes name things as they were and are left out, but for their links."""
 import pathlib
 import re
 import subprocess
@@ -96,7 +96,7 @@ def main():
         tails.update("/".join(bits[i:k]) for i in range(len(bits)) for k in range(i + 1, len(bits) + 1))
         # an edit is named without its ending
         tails.add(bits[-1].removesuffix(".edit"))
-    documents = [ROOT / "README.md", ROOT / "CONTRIBUTING.md"] + sorted(p for p in (ROOT / "docs").glob("*.md") if p.name != "PORT.md")
+    documents = [ROOT / "README.md", ROOT / "CONTRIBUTING.md"] + sorted(p for p in (ROOT / "docs").glob("*.md") if p.name not in ("PORT.md", "DESIGN-PASS.md"))
     faults = []
     for path in documents:
         faults += [f"{path.relative_to(ROOT)}: {what}" for what in [*bad_names(path, known, tails), *bad_links(path)]]

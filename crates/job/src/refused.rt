@@ -1,5 +1,5 @@
-// The numbers of a refusal, as 01's table "Numbers for a stopped call" lists them. Every layer's own refusals become these, for the calls for
-// C and for the line that the program prints.
+// The numbers of a refusal, as 01's table "Numbers for a stopped call" lists them. Every layer's own refusals become these, for the calls
+// for C and for the line that the program prints.
 use price::BadNumber;
 use search::Refusal;
 

@@ -223,7 +223,8 @@ pub record TurnLogged (t : Turn) (expanded : ℕ) (tariff : Tariff) (net : ℕ) 
 
 -- what a turn did, by cases
 abbrev pub TurnDone :
-    (r : Result (Option Tariff) NoRoom) (t : Turn) (expanded : ℕ) (tariff : Tariff) (net : ℕ) (sinks log marks log' marks' : List ℕ) → Type 0
+    (r : Result (Option Tariff) NoRoom) (t : Turn) (expanded : ℕ) (tariff : Tariff) (net : ℕ) (sinks log marks log' marks' : List ℕ)
+    → Type 0
 TurnDone (Ok None) t expanded tariff net sinks log marks log' marks' = Skipped t log marks log' marks'
 TurnDone (Err full) t expanded tariff net sinks log marks log' marks' = Overflows t tariff log log'
 TurnDone (Ok (Some tariff')) t expanded tariff net sinks log marks log' marks' =

@@ -106,6 +106,8 @@ fn run(
         (firsts targets backs sources : List ℕ) → Counted b r firsts targets backs sources
         → SinksAimed b r c marks list before after firsts targets backs sources result.cost result.expanded }
 {
+    // Copies of its own: what stands in them stays in registers over the loop.
+    let (tables, back, prices) = (*tables, *back, *prices);
     let n = tables.kind.len();
     let scale = estimate::scale_of(prices.weighting);
     let mut head = [0u16; BUCKETS];
@@ -115,7 +117,7 @@ fn run(
     };
     let mut f = estimate::give_sinks(
         tables.kind,
-        back,
+        &back,
         work,
         &mut head,
         scale,
@@ -143,9 +145,9 @@ fn run(
         }
         if least <= coming {
             expanded += 1;
-            r = aim::expand_next(tables, prices, back, work, r);
+            r = aim::expand_next(&tables, &prices, &back, work, r);
         } else {
-            f = estimate::spread_next(tables.kind, back, work, &mut head, scale, f, level);
+            f = estimate::spread_next(tables.kind, &back, work, &mut head, scale, f, level);
         }
     }
 }

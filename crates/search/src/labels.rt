@@ -241,6 +241,8 @@ pub fn settle_all(
         let price = price_read tables.now prices.now in
         SpreadStopped b price goals last_step work.old work.new result }
 {
+    // Copies of its own: what stands in them stays in registers over the loop.
+    let (tables, prices) = (*tables, *prices);
     let n = tables.kind.len();
     let mut r = Reach {
         best: FAR,
@@ -254,7 +256,7 @@ pub fn settle_all(
         }
         let rest = r.count - 1;
         heap::take(work, n, rest);
-        r = settle(tables, prices, goals, work, u, Reach { count: rest, ..r });
+        r = settle(&tables, &prices, goals, work, u, Reach { count: rest, ..r });
     }
     r.best
 }
