@@ -55,6 +55,7 @@ fn records_crowded(log: &[u32], from: usize, until: usize, capacity: &[u8], user
 
 // The mark of a net. One without sinks is not due; of the others all are, or those whose tree, which stands in the log between the net's
 // two places, is crowded.
+// A mark is a byte as those of in_tree are, and no bool: the contracts of all who read it compare it with 0.
 fn due_mark(
     all: bool,
     job: &JobTables,

@@ -39,14 +39,12 @@ fn has_edge(tables: &Tables, u: usize, v: usize) -> bool
 }
 
 // The delay of node v; it is read only where it is weighed.
+// search has the same for itself: these lines are plainer than one more public function of it.
 fn delay_at(weighting: Weighting, delay: &[u16], v: usize) -> u32
     requires { weighting.timed ≡ true → v < length delay.now }
     ensures { weighting.timed ≡ true → result ≡ get_or delay.now v 0 }
 {
-    if weighting.timed {
-        return delay[v] as u32;
-    }
-    0
+    if weighting.timed { delay[v] as u32 } else { 0 }
 }
 
 // The price of node v.
@@ -73,7 +71,7 @@ fn node_price(tables: &Tables, prices: &Prices, v: usize) -> u64
 fn last_mark(next: usize, to: usize) -> u8
     ensures { result ≡ choose (ltb next to) 0 1 }
 {
-    if next < to { 0 } else { 1 }
+    (to <= next) as u8
 }
 
 // The step from node u to v goes along an edge to a node without a mark, which is a goal or not as `last` says.

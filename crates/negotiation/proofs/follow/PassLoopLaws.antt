@@ -87,13 +87,6 @@ module _ (ks cs fs ts goals marks : List ℕ) (u v next to : ℕ) where
   unfolding step_passes has_edge row
   step_answer e is = rw is at e
 
--- the mark of the last place
-pub mark_more : (next to : ℕ) → next < to → ◌≡◌ {A = ℕ} 0 (choose (ltb next to) 0 1)
-mark_more next to l = rw (lt-ltb next to l)
-
-pub mark_last : (next to : ℕ) → to ≤ next → ◌≡◌ {A = ℕ} 1 (choose (ltb next to) 0 1)
-mark_last next to l = rw (le-ltb next to l)
-
 -- ---- the price of a node
 
 -- the price's answer to a node that is ready to be priced, within its bound
