@@ -230,6 +230,10 @@ module _ (b : Block) (w : Weighting) (ds : List ℕ) where
   pub named_table_refused : {refusal : Refusal} {table : ℕ} {left : List ℕ} → refusal ≡ BadTable table → path_reply_of (Err refusal) left ≡ asked → Err (record { table = table }) ≡ tested (faulty_with_delays b priced)
   named_table_refused {refusal} {table} f e = ap (λ a. table_named (search.refusal_numbers a)) (sym f) ∙ named (Err refusal) e
 
+  -- a refusal of another kind names no table
+  pub named_other : {refusal : Refusal} (other : Refusal) {left : List ℕ} → refusal ≡ other → table_named (search.refusal_numbers other) ≡ Ok tt → path_reply_of (Err refusal) left ≡ asked → Ok tt ≡ tested (faulty_with_delays b priced)
+  named_other {refusal} other f none e = sym none ∙ ap (λ a. table_named (search.refusal_numbers a)) (sym f) ∙ named (Err refusal) e
+
   pub named_no_table : (refusal : Refusal) {left : List ℕ} → ((table : ℕ) → refusal ≡ BadTable table → ⊥) → path_reply_of (Err refusal) left ≡ asked → Ok tt ≡ tested (faulty_with_delays b priced)
   named_no_table (BadTable table) other e = absurd (other table refl)
   named_no_table (ShortWork needed) other e = named (Err (ShortWork needed)) e

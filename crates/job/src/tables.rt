@@ -155,7 +155,9 @@ fn faulty_with_delays(tables: &Tables, weighting: Weighting, delay: &[u16]) -> R
     };
     match refusal {
         Refusal::BadTable(table) => Err(BadTable { table }),
-        _ => Ok(()),
+        Refusal::ShortWork(_) => Ok(()),
+        Refusal::BadNumber(_) => Ok(()),
+        Refusal::TooLarge(_) => Ok(()),
     }
 }
 
