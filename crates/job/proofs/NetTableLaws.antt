@@ -1,8 +1,10 @@
 -- How a pass over tables 5 to 10 decides their rules: by the entry that breaks one, or by every entry passed.
 --     sources-all, stays_at, always_rises, firsts-    tables 5 and 6
 --     net-answer, Passing, passing-, nets-            table 7
+--     kind_, pin_bad, pins_all                        the pins' kinds
+--     terms-, faulty_                                 table 8, and the lowest of tables 5 to 8
 --     times_                                          tables 9 and 10
---     block-, nets_refused, times_last                the lowest faulty table of all
+--     block-, faulty_by_nets, nets_refused, times_last  the lowest faulty table of all
 --     named                                           tables 1 to 4 and 9, by what the cheapest path refuses
 -- Assumes nothing.
 use mathlib.Core.Bool.{Bool, true, false}
@@ -19,7 +21,8 @@ use borrow.Author.Tests.{le-leb, lt-leb, lt-ltb, le-ltb, eq-eqb, ne_eqb}
 use Rattle.std.specs.Prelude.{Option, Result, Ok, Err}
 use Rattle.std.specs.Result.{is_ok}
 use Rattle.price.specs.Test.{choose, both}
-use Rattle.price.specs.Bounds.{nodes_most, factor_most}
+use Rattle.price.specs.Bounds.{nodes_most, limit_most, factor_most}
+use Rattle.price.specs.Tuning.{tuning_sound}
 use Rattle.price.specs.Timed.{untimed}
 use Rattle.price.specs.declared.Weighting.{Weighting}
 use Rattle.price.specs.Lists.{every, neighbours, up_to}
@@ -39,7 +42,7 @@ use Rattle.search.specs.declared.Refusal.{Refusal}
 use Rattle.search.specs.declared.Refusal.TheVariants.{BadTable, ShortWork, BadNumber, TooLarge}
 use Rattle.search.proofs.BlockLaws.{sound_of, kinds-few}
 use Rattle.job.specs.Job.{Job, nodes, sinks_between, if_timed}
-use Rattle.job.specs.Tables.{nets_most, sources_sound, first_sinks_sound, net_sound, sinks_sound, faulty_nets, criticalities_sound, faulty_times, faulty_untimed, faulty_job}
+use Rattle.job.specs.Tables.{nets_most, sources_sound, first_sinks_sound, net_sound, sinks_sound, limit_sound, rule_sound, terms_sound, one_of, pins_of, source_pins, sink_pins, faulty_nets, criticalities_sound, faulty_times, faulty_untimed, faulty_job}
 use Rattle.job.specs.declared.Terms.{Terms}
 use Rattle.job.proofs.SinkMarkLaws.{Unmarked, unmarked_new}
 
@@ -107,6 +110,79 @@ pub passing-more :
 passing-more i p here none long =
     record { sound = below_more _ i p.sound here; unmarked = none; long = long ∙ p.long }
 
+-- ---- the pins' kinds
+
+module _ (a b kind : ℕ) where
+  pub kind_first : kind ≡ a → true ≡ one_of a b kind
+  unfolding one_of
+  kind_first e = rw (eq-eqb kind a e)
+
+  pub kind_second : (kind ≡ a → ⊥) → eqb kind b ≡ one_of a b kind
+  unfolding one_of
+  kind_second n = rw (ne_eqb kind a n)
+
+module _ (test : ℕ → Bool) (kinds ps : List ℕ) where
+  pub pin_bad : (i : ℕ) → i < length ps → test (get_or kinds (get_or ps i 0) 0) ≡ false → pins_of test kinds ps ≡ false
+  unfolding pins_of
+  pin_bad i h bad = every-none (λ v. test (get_or kinds v 0)) ps i h bad
+
+  pub pins_all : (i : ℕ) → length ps ≤ i → ((k : ℕ) → k < i → test (get_or kinds (get_or ps k 0) 0) ≡ true) → pins_of test kinds ps ≡ true
+  unfolding pins_of
+  pins_all i end all = every-all (λ v. test (get_or kinds v 0)) ps (λ k l. all k (omega arith))
+
+-- ---- table 8 and the lowest of tables 5 to 8
+
+module _ (t : Terms) where
+  pub terms-low : t.limit < 1 → terms_sound t ≡ false
+  unfolding terms_sound limit_sound
+  terms-low h = rw (lt-leb 1 t.limit h)
+
+  pub terms-high : 1 ≤ t.limit → limit_most < t.limit → terms_sound t ≡ false
+  unfolding terms_sound limit_sound
+  terms-high some h = rw (le-leb 1 t.limit some, lt-leb t.limit limit_most h)
+
+  pub terms-tuning : 1 ≤ t.limit → t.limit ≤ limit_most → tuning_sound t.tuning ≡ false → terms_sound t ≡ false
+  unfolding terms_sound limit_sound
+  terms-tuning some few bad = rw (le-leb 1 t.limit some, le-leb t.limit limit_most few, bad)
+
+  pub terms-rule : 1 ≤ t.limit → t.limit ≤ limit_most → tuning_sound t.tuning ≡ true → terms_sound t ≡ rule_sound t.rule t.until
+  unfolding terms_sound limit_sound
+  terms-rule some few fits = rw (le-leb 1 t.limit some, le-leb t.limit limit_most few, fits)
+
+module _ (kinds ss fs ts : List ℕ) (terms : Terms) where
+  pub faulty_5 : sources_sound (length kinds) ss ≡ false → faulty_nets kinds ss fs ts terms ≡ 5
+  unfolding faulty_nets
+  faulty_5 p = rw p
+
+  module _ (p : sources_sound (length kinds) ss ≡ true) where
+    pub faulty_source : source_pins kinds ss ≡ false → faulty_nets kinds ss fs ts terms ≡ 5
+    unfolding faulty_nets
+    faulty_source u = rw (p, u)
+
+    module _ (u : source_pins kinds ss ≡ true) where
+      pub faulty_6 : first_sinks_sound (length ss) (length ts) fs ≡ false → faulty_nets kinds ss fs ts terms ≡ 6
+      unfolding faulty_nets
+      faulty_6 q = rw (p, u, q)
+
+      module _ (q : first_sinks_sound (length ss) (length ts) fs ≡ true) where
+        pub faulty_7 : sinks_sound (length kinds) ss fs ts ≡ false → faulty_nets kinds ss fs ts terms ≡ 7
+        unfolding faulty_nets
+        faulty_7 r = rw (p, u, q, r)
+
+        module _ (r : sinks_sound (length kinds) ss fs ts ≡ true) where
+          pub faulty_sink : sink_pins kinds ts ≡ false → faulty_nets kinds ss fs ts terms ≡ 7
+          unfolding faulty_nets
+          faulty_sink v = rw (p, u, q, r, v)
+
+          module _ (v : sink_pins kinds ts ≡ true) where
+            pub faulty_8 : terms_sound terms ≡ false → faulty_nets kinds ss fs ts terms ≡ 8
+            unfolding faulty_nets
+            faulty_8 e = rw (p, u, q, r, v, e)
+
+            pub faulty_no_net : terms_sound terms ≡ true → faulty_nets kinds ss fs ts terms ≡ 0
+            unfolding faulty_nets
+            faulty_no_net e = rw (p, u, q, r, v, e)
+
 -- ---- a test of tables as a result
 
 -- the first of two is refused
@@ -154,6 +230,16 @@ module _ (b : Block) (t : Terms) (m : ℕ) (ds cs : List ℕ) (timed : t.timed �
 pub block-few : (b : Block) → faulty_table b ≡ 0 → block.nodes b ≤ nodes_most
 block-few b none = kinds-few b.kinds (sound_of b none).kinds_sound_lem
 
+-- where the block is sound and a table from 5 to 8 is not, it is the lowest
+module _ {table : ℕ} (j : Job) (e : table ≡ faulty_table j.block) (h : table < 1) {nets : ℕ} (is : nets ≡ faulty_nets j.block.kinds j.sources j.first_sinks j.sinks j.terms) where
+  by_nets : faulty_untimed j ≡ nets
+  unfolding faulty_untimed
+  by_nets = rw (← e, lt-leb 1 table h) (sym is)
+
+  pub faulty_by_nets : 1 ≤ nets → faulty_job j ≡ nets
+  unfolding faulty_job
+  faulty_by_nets some = rw (by_nets, le-leb 1 nets some)
+
 -- the parts of a job one after the other
 module _ (j : Job) where
   pub block_refused : {refused : bad.BadTable} → Err refused ≡ tested (faulty_table j.block) → Err refused ≡ tested (faulty_job j)
@@ -179,69 +265,114 @@ module _ (j : Job) where
 
 -- ---- the tables that the cheapest path tests, by its refusal
 
--- the table that a refusal names
-abbrev table_named : List ℕ → Result (Unit {0}) bad.BadTable
-table_named [] = Ok tt
-table_named (k ∷ ks) = choose (eqb k 5) (Err (record { table = get_or ks 0 0 })) (Ok tt)
+-- the table that a refusal names, 0 where it names none
+abbrev pub table_named : List ℕ → ℕ
+table_named [] = 0
+table_named (k ∷ ks) = choose (eqb k 5) (get_or ks 0 0) 0
 
 -- a test between two refusals that name no table
-unnamed : (t : Bool) (xs ys : List ℕ) → table_named xs ≡ Ok tt → table_named ys ≡ Ok tt → table_named (choose t xs ys) ≡ Ok tt
+unnamed : (t : Bool) (xs ys : List ℕ) → table_named xs ≡ 0 → table_named ys ≡ 0 → table_named (choose t xs ys) ≡ 0
 unnamed true xs ys p q = p
 unnamed false xs ys p q = q
 
 -- a refusal names the faulty table, whatever else is wrong
-named_table : (table n work : ℕ) (c : Congestion) (marks : List ℕ) → table_named (refusal_of table n c marks work) ≡ tested table
+named_table : (table n work : ℕ) (c : Congestion) (marks : List ℕ) → table_named (refusal_of table n c marks work) ≡ table
 unfolding refusal_of
-named_table zero n work c marks =
-    unnamed (too_many c.weighting n) _ _ refl
+named_table table n work c marks =
+    ⊎_elim
+    (λ (h : 1 ≤ table). rw (le-leb 1 table h))
+    (λ (h : table < 1).
+    let none : 0 ≡ table = omega arith in
+    rw (lt-leb 1 table h)
+    (unnamed (too_many c.weighting n) _ _ refl
     (unnamed (ltb work (work_needed n)) _ _ refl
     (unnamed (ltb (bad_node n c marks) n) _ _ refl
     (unnamed (ltb factor_most c.factor) _ _ refl
     (unnamed (bad_criticality c.weighting) _ _ refl refl))))
-named_table (suc table) n work c marks = rw (le-leb 1 (suc table) (omega arith))
+    ∙ none))
+    (le_or_lt 1 table)
 
 -- with no sinks and one entry of work memory every call is refused, for a table or for another reason
-module _ (b : Block) (w : Weighting) (ds : List ℕ) where
+module _ (b : Block) (w : Weighting) (ds : List ℕ) (factor : ℕ) (histories others marks work : List ℕ) (short : length work ≡ 1) where
   abbrev priced : Congestion
-  priced = weighed_congestion w ds 0 [] []
-
-  abbrev asked : search.PathReply
-  asked = path_reply b priced [] [] (0 ∷ [])
+  priced = weighed_congestion w ds factor histories others
 
   -- one entry is too few for any job
-  unfit : fitting b priced [] [] (0 ∷ []) ≡ false
+  unfit : fitting b priced marks [] work ≡ false
   unfit =
-      by_test (fitting b priced [] [] (0 ∷ []))
+      by_test (fitting b priced marks [] work)
       (λ q.
-      absurd (let f = fitted b priced [] [] (0 ∷ []) q in let some = f.some in let enough = f.enough in omega arith))
+      absurd (let f = fitted b priced marks [] work q in let some = f.some in let enough = f.enough in omega arith))
       (λ q. q)
 
-  no_sinks : faulty_with_sinks b priced [] ≡ faulty_with_delays b priced
+  -- of what prices the turn the tables' test reads the delays alone
+  no_sinks : faulty_with_sinks b priced [] ≡ faulty_with_delays b (weighed_congestion w ds 0 [] [])
   unfolding faulty_with_sinks faulty_with_delays search.sink_list_sound every
   no_sinks =
       by_test (leb 1 (faulty_table b)) (λ q. rw q) (λ q. rw q)
 
-  named : (r : Result (Option Joins) Refusal) {left : List ℕ} → path_reply_of r left ≡ asked → table_named (search.path_refusal r) ≡ tested (faulty_with_delays b priced)
+  refused : table_named (path_reply b priced marks [] work).refusal ≡ faulty_with_delays b (weighed_congestion w ds 0 [] [])
   unfolding path_reply
-  named r e =
-      ap (λ a. table_named a.refusal) e
-      ∙ rw unfit (named_table (faulty_with_sinks b priced []) (block.nodes b) 1 priced [] ∙ ap tested no_sinks)
+  refused = rw unfit (named_table (faulty_with_sinks b priced []) (block.nodes b) (length work) priced marks ∙ no_sinks)
 
-  pub named_table_refused : {refusal : Refusal} {table : ℕ} {left : List ℕ} → refusal ≡ BadTable table → path_reply_of (Err refusal) left ≡ asked → Err (record { table = table }) ≡ tested (faulty_with_delays b priced)
-  named_table_refused {refusal} {table} f e = ap (λ a. table_named (search.refusal_numbers a)) (sym f) ∙ named (Err refusal) e
+  pub named :
+      {r answered : Result (Option Joins) Refusal} (left : List ℕ) → path_reply_of r left ≡ path_reply b priced marks [] work → r ≡ answered
+      → table_named (path_reply_of answered left).refusal ≡ faulty_with_delays b (weighed_congestion w ds 0 [] [])
+  named left e t = ap (λ a. table_named (path_reply_of a left).refusal) (sym t) ∙ ap (λ a. table_named a.refusal) e ∙ refused
+
+-- ---- the same as a result
+
+-- the table that a refusal names, as a faulty table
+abbrev table_in : List ℕ → Result (Unit {0}) bad.BadTable
+table_in [] = Ok tt
+table_in (k ∷ ks) = choose (eqb k 5) (Err (record { table = get_or ks 0 0 })) (Ok tt)
+
+-- a test between two refusals that name no table
+none_in : (t : Bool) (xs ys : List ℕ) → table_in xs ≡ Ok tt → table_in ys ≡ Ok tt → table_in (choose t xs ys) ≡ Ok tt
+none_in true xs ys p q = p
+none_in false xs ys p q = q
+
+-- a refusal names the faulty table, whatever else is wrong
+refused_in : (table n work : ℕ) (c : Congestion) (marks : List ℕ) → table_in (refusal_of table n c marks work) ≡ tested table
+unfolding refusal_of
+refused_in zero n work c marks =
+    none_in (too_many c.weighting n) _ _ refl
+    (none_in (ltb work (work_needed n)) _ _ refl
+    (none_in (ltb (bad_node n c marks) n) _ _ refl
+    (none_in (ltb factor_most c.factor) _ _ refl
+    (none_in (bad_criticality c.weighting) _ _ refl refl))))
+refused_in (suc table) n work c marks = rw (le-leb 1 (suc table) (omega arith))
+
+-- what is asked of the cheapest path
+module _ (b : Block) (w : Weighting) (ds : List ℕ) where
+  abbrev alone : Congestion
+  alone = weighed_congestion w ds 0 [] []
+
+  abbrev asked : search.PathReply
+  asked = path_reply b alone [] [] (0 ∷ [])
+
+  asked_for : (r : Result (Option Joins) Refusal) {left : List ℕ} → path_reply_of r left ≡ asked → table_in (search.path_refusal r) ≡ tested (faulty_with_delays b alone)
+  unfolding path_reply
+  asked_for r e =
+      ap (λ a. table_in a.refusal) e
+      ∙ rw (unfit b w ds 0 [] [] [] (0 ∷ []) refl)
+      (refused_in (faulty_with_sinks b alone []) (block.nodes b) 1 alone [] ∙ ap tested (no_sinks b w ds 0 [] [] [] (0 ∷ []) refl))
+
+  pub named_table_refused : {refusal : Refusal} {table : ℕ} {left : List ℕ} → refusal ≡ BadTable table → path_reply_of (Err refusal) left ≡ asked → Err (record { table = table }) ≡ tested (faulty_with_delays b alone)
+  named_table_refused {refusal} {table} f e = ap (λ a. table_in (search.refusal_numbers a)) (sym f) ∙ asked_for (Err refusal) e
 
   -- a refusal of another kind names no table
-  pub named_other : {refusal : Refusal} (other : Refusal) {left : List ℕ} → refusal ≡ other → table_named (search.refusal_numbers other) ≡ Ok tt → path_reply_of (Err refusal) left ≡ asked → Ok tt ≡ tested (faulty_with_delays b priced)
-  named_other {refusal} other f none e = sym none ∙ ap (λ a. table_named (search.refusal_numbers a)) (sym f) ∙ named (Err refusal) e
+  pub named_other : {refusal : Refusal} (other : Refusal) {left : List ℕ} → refusal ≡ other → table_in (search.refusal_numbers other) ≡ Ok tt → path_reply_of (Err refusal) left ≡ asked → Ok tt ≡ tested (faulty_with_delays b alone)
+  named_other {refusal} other f none e = sym none ∙ ap (λ a. table_in (search.refusal_numbers a)) (sym f) ∙ asked_for (Err refusal) e
 
-  pub named_no_table : (refusal : Refusal) {left : List ℕ} → ((table : ℕ) → refusal ≡ BadTable table → ⊥) → path_reply_of (Err refusal) left ≡ asked → Ok tt ≡ tested (faulty_with_delays b priced)
+  pub named_no_table : (refusal : Refusal) {left : List ℕ} → ((table : ℕ) → refusal ≡ BadTable table → ⊥) → path_reply_of (Err refusal) left ≡ asked → Ok tt ≡ tested (faulty_with_delays b alone)
   named_no_table (BadTable table) other e = absurd (other table refl)
-  named_no_table (ShortWork needed) other e = named (Err (ShortWork needed)) e
-  named_no_table (BadNumber place) other e = named (Err (BadNumber place)) e
-  named_no_table (TooLarge n) other e = named (Err (TooLarge n)) e
+  named_no_table (ShortWork needed) other e = asked_for (Err (ShortWork needed)) e
+  named_no_table (BadNumber place) other e = asked_for (Err (BadNumber place)) e
+  named_no_table (TooLarge n) other e = asked_for (Err (TooLarge n)) e
 
-  pub named_none : (joins : Option Joins) {left : List ℕ} → path_reply_of (Ok joins) left ≡ asked → Ok tt ≡ tested (faulty_with_delays b priced)
-  named_none joins e = named (Ok joins) e
+  pub named_none : (joins : Option Joins) {left : List ℕ} → path_reply_of (Ok joins) left ≡ asked → Ok tt ≡ tested (faulty_with_delays b alone)
+  named_none joins e = asked_for (Ok joins) e
 
 pub named_untimed : (b : Block) (ds : List ℕ) → faulty_with_delays b (weighed_congestion untimed ds 0 [] []) ≡ faulty_table b
 unfolding faulty_with_delays

@@ -2,12 +2,13 @@
 --     kinds_, capacities_               tables 1 and 2
 --     falls_, firsts-                   table 3
 --     edges-                            table 4 by its rows
+--     faulty_none                       the lowest faulty table
 --     sinks_, sinks-                    a list of sinks
 --     delays_                           table 9
 -- Assumes nothing.
 use mathlib.Core.Bool.{Bool, true, false}
 use mathlib.Core.List.{List, [], ◌∷◌}
-use mathlib.Core.Path.{◌≡◌, refl, ap}
+use mathlib.Core.Path.{◌≡◌, refl, sym, ◌∙◌, ap}
 use Prim.Native.Nat.{ℕ, suc, ◌+◌, ◌-◌, ◌≤◌, ◌<◌}
 use native.Mathlib.Omega.{arith}
 use lib.Dec.{leb, ltb, eqb}
@@ -20,9 +21,10 @@ use Rattle.price.specs.Bounds.{kind_most, capacity_most, nodes_most, delay_most}
 use Rattle.price.specs.Lists.{every, neighbours, up_to}
 use Rattle.price.proofs.TestLaws.{both_true, both_false_right}
 use Rattle.price.proofs.ListLaws.{every-all, every-none, neighbours-all, length_up_to, get_or_up_to}
-use Rattle.search.specs.Block.{Block, nodes, row}
-use Rattle.search.specs.Tables.{kinds_sound, capacities_sound, first_edges_sound, row_sound, edge_targets_sound, edges_most, delays_sound}
+use Rattle.search.specs.Block.{Block, graph_of, nodes, row}
+use Rattle.search.specs.Tables.{kinds_sound, capacities_sound, first_edges_sound, row_sound, edge_targets_sound, edges_most, faulty_table, delays_sound}
 use Rattle.search.specs.Replies.{sinks_most, sink_list_sound}
+use Rattle.search.proofs.BlockLaws.{faulty_of}
 use Rattle.search.proofs.KeptLaws.{both_alone, every_all}
 
 -- ---- table 1
@@ -90,6 +92,19 @@ module _ (b : Block) where
       (λ i l.
       let node : i < nodes b = rw length_up_to at l in
       rw (get_or_up_to (λ u. u) (nodes b) i 0 node) (all i (omega arith))))
+
+-- the rule of table 4 does not look at table 2
+edges-alone : (b : Block) → edge_targets_sound (graph_of b.kinds b.first_edges b.edge_targets) ≡ edge_targets_sound b
+unfolding edge_targets_sound row
+edges-alone b = refl
+
+-- ---- the lowest faulty table
+
+-- none where every rule holds, that of table 4 read without table 2
+module _ (b : Block) (p : kinds_sound b.kinds ≡ true) (q : capacities_sound (nodes b) b.capacities ≡ true) (r : first_edges_sound (nodes b) (length b.edge_targets) b.first_edges ≡ true) where
+  pub faulty_none : edge_targets_sound (graph_of b.kinds b.first_edges b.edge_targets) ≡ true → faulty_table b ≡ 0
+  faulty_none s =
+      faulty_of b (record { kinds_sound_lem = p; capacities_sound_lem = q; first_edges_sound_lem = r; edge_targets_sound_lem = sym (edges-alone b) ∙ s })
 
 -- ---- a list of sinks
 
