@@ -20,7 +20,7 @@ use borrow.Author.Count.{below_none, below_more}
 use borrow.Author.Tests.{le-leb, lt-leb, lt-ltb, le-ltb, eq-eqb, ne_eqb}
 use Rattle.std.specs.Prelude.{Option, Result, Ok, Err}
 use Rattle.std.specs.Result.{is_ok}
-use Rattle.price.specs.Test.{choose, both}
+use Rattle.price.specs.Test.{choose}
 use Rattle.price.specs.Bounds.{nodes_most, limit_most, factor_most}
 use Rattle.price.specs.Tuning.{tuning_sound}
 use Rattle.price.specs.Timed.{untimed}
