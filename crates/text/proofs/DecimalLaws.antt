@@ -186,3 +186,10 @@ two_size letter a b = simp length-append (omega arith)
 pub three_size : (letter a b c : ℕ) → length (print_line letter (a ∷ b ∷ c ∷ [])) ≡ length (decimal a) + length (decimal b) + length (decimal c) + 5
 unfolding print_line print_fields
 three_size letter a b c = simp length-append (omega arith)
+
+-- and is short, as a number has 20 digits at most
+pub two_most : (letter a b : ℕ) → length (print_line letter (a ∷ b ∷ [])) ≤ 44
+two_most letter a b = omega (arith, two_size letter a b, decimal-length a, decimal-length b)
+
+pub three_most : (letter a b c : ℕ) → length (print_line letter (a ∷ b ∷ c ∷ [])) ≤ 65
+three_most letter a b c = omega (arith, three_size letter a b c, decimal-length a, decimal-length b, decimal-length c)

@@ -14,6 +14,7 @@
 --     NetLineLaws       an S or a T line
 -- The whole text, for the functions that read it:
 --     CopyLaws          copying the first entries of a table one by one, for the crates above
+--     StoppedLaws       a text that is stopped at a line is refused by 1, 2 or 3
 --     ReadJobLaws       row 4, then 15, and the tables afterwards
 --     SizeLaws          which jobs tables are long enough for, and how long what the program lends is
 -- What is read against what is printed, for TextHolds:
@@ -52,6 +53,7 @@ pub mod NetLineLaws
 pub mod CopyLaws
 pub mod ReadJobLaws
 pub mod SizeLaws
+pub mod StoppedLaws
 pub mod DecimalLaws
 pub mod PlacedLaws
 pub mod LineReplyLaws

@@ -1,18 +1,20 @@
 -- A line that may be left out, at a place of the text: what the terms are after it.
 --     left_out, wrong_shape, line_given      what was read of it
---     optional_, read_place                  the terms by the line's shape and bounds, and where the line after it begins
+--     optional_, terms_after, read_place     the terms by the line's shape and bounds, and where the line after it begins
 --     rule-alone, -none, -one, -both         the V line, which has one number or two
 --     then_on, then_stopped                  the lines that may follow F, one after the other
 -- Assumes nothing.
 use mathlib.Core.Bool.{Bool, true, false}
 use mathlib.Core.List.{List, [], ◌∷◌}
-use mathlib.Core.Path.{◌≡◌, ◌∙◌, ap, subst}
-use Prim.Native.Nat.{ℕ, ◌+◌}
-use lib.ListN.{get_or, take, drop}
+use mathlib.Core.Path.{◌≡◌, refl, ◌∙◌, ap, subst}
+use Prim.Native.Nat.{ℕ, ◌+◌, ◌≤◌}
+use native.Mathlib.Omega.{arith}
+use lib.ListN.{length, get_or, take, drop}
 use borrow.Author.Tests.{eq-eqb, ne_eqb}
+use Rattle.price.specs.Test.{choose}
 use Rattle.job.specs.declared.Terms.{Terms}
 use Rattle.text.specs.Lines.{letter_v, begins, Fields, taken, malformed, line}
-use Rattle.text.specs.JobText.{judged, rule_fields, Part, part, stopped, and_then, optional}
+use Rattle.text.specs.JobText.{values, refused, judged, rule_fields, Part, part, stopped, onward, and_then, optional}
 use Rattle.text.specs.Steps.{row, Within, Shaped, terms_at, TermsPlace}
 use Rattle.std.specs.Result.{IsErrAnd}
 use Rattle.std.specs.Prelude.{Option}
@@ -21,6 +23,7 @@ use Rattle.std.specs.Prelude.{Result}
 use Rattle.std.specs.Prelude.{Ok, Err}
 use Rattle.text.specs.declared.fields.LineFields.{LineFields}
 use Rattle.text.specs.declared.place.Place.{Place}
+use Rattle.text.specs.declared.place.LineFault.TheVariants.{Malformed, BeyondBounds}
 use Rattle.text.specs.declared.place.LineRefusal.{LineRefusal}
 use Rattle.text.specs.declared.optional.TermsRead.{TermsRead}
 
@@ -58,6 +61,53 @@ module _ (letter count : ℕ) (read : List ℕ → Fields) (from : Place) (text 
           → part (change (take count (l.first ∷ l.second ∷ l.third ∷ l.fourth ∷ []))) (from.line + 1) (drop l.next text)
           ≡ optional letter (judged within (λ vs. true) (read (drop from.at text))) change t from.line (drop from.at text)
       optional_read w = let h = line_given is in rw (h.0, h.1, w)
+
+-- the values that were read
+abbrev pub values_of : ℕ → Result (Option LineFields) LineRefusal → List ℕ
+values_of count (Ok (Some l)) = take count (l.first ∷ l.second ∷ l.third ∷ l.fourth ∷ [])
+values_of count (Ok None) = []
+values_of count (Err e) = []
+
+-- the terms after the line, as they were or changed, or its fault: its shape, or a value beyond its bounds
+abbrev pub terms_after : Result (Option LineFields) LineRefusal → Bool → Terms → Terms → Place → Result TermsRead LineRefusal
+terms_after (Ok None) within t changed from = Ok (record { terms = t; place = from })
+terms_after (Err e) within t changed from = Err (record { fault = Malformed; line = from.line })
+terms_after (Ok (Some l)) within t changed from =
+    choose within (Ok (record { terms = changed; place = record { at = l.next; line = from.line + 1 } })) (Err (record { fault = BeyondBounds; line = from.line }))
+
+-- values that passed their test or not
+judged-terms :
+    (change : List ℕ → Terms) (at next : ℕ) (text vs : List ℕ) (w : Bool)
+    → terms_at text (choose w (Ok (record { terms = change vs; place = record { at = next; line = at + 1 } })) (Err (record { fault = BeyondBounds; line = at })))
+    ≡ onward (choose w (values vs (drop next text)) (refused 2)) at (λ vs rest. part (change vs) (at + 1) rest)
+judged-terms change at next text vs true = refl
+judged-terms change at next text vs false = refl
+
+judged_place :
+    (t : Terms) (at next : ℕ) (text : List ℕ) → next ≤ length text → at + 1 ≤ next + 1 → (w : Bool)
+    → TermsPlace text (choose w (Ok (record { terms = t; place = record { at = next; line = at + 1 } })) (Err (record { fault = BeyondBounds; line = at })))
+judged_place t at next text few on true = (few, on)
+judged_place t at next text few on false = tt
+
+module _ (letter count : ℕ) (read : List ℕ → Fields) (within : List ℕ → Bool) (change : List ℕ → Terms) (t : Terms) (from : Place) (text : List ℕ) where
+  -- what is given where the line ends, and its place
+  abbrev Given : Result TermsRead LineRefusal → Type 0
+  Given x = (terms_at text x ≡ optional letter (judged within (λ vs. true) (read (drop from.at text))) change t from.line (drop from.at text)) × TermsPlace text x
+
+  given_by :
+      (r : Result (Option LineFields) LineRefusal) → Within text from → Shaped letter read count from text r
+      → Given (terms_after r (within (values_of count r)) t (change (values_of count r)) from)
+  given_by (Ok None) pre b = (rw b, pre)
+  given_by (Err e) pre h = (rw (h.2, h.3), tt)
+  given_by (Ok (Some l)) pre h = (
+    judged-terms change from.line l.next text (take count (l.first ∷ l.second ∷ l.third ∷ l.fourth ∷ [])) (within (take count (l.first ∷ l.second ∷ l.third ∷ l.fourth ∷ []))) ∙ rw (h.0, h.1),
+    judged_place (change (take count (l.first ∷ l.second ∷ l.third ∷ l.fourth ∷ []))) from.line l.next text h.2.1 (omega (arith, h.2.0, pre.1)) (within (take count (l.first ∷ l.second ∷ l.third ∷ l.fourth ∷ []))),
+  )
+
+  pub optional_given :
+      (r : Result (Option LineFields) LineRefusal) {w : Bool} {x : Result TermsRead LineRefusal} → Within text from → Shaped letter read count from text r
+      → w ≡ within (values_of count r) → x ≡ terms_after r w t (change (values_of count r)) from → Given x
+  optional_given r pre h tested is = rw (is, tested) (given_by r pre h)
 
 -- a refusal that is passed on by `?`
 pub passed_on : {A B : Type 0} {e : B} (r : Result A B) → IsErrAnd r (λ b. b ≡ e) → r ≡ Err e

@@ -6,14 +6,14 @@
 --     PuttingSteps, putting-           going from step to step
 -- Assumes nothing.
 use mathlib.Core.List.{List, [], ◌∷◌, ◌++◌, append_assoc, append-nil, flat_map}
-use mathlib.Core.Path.{◌≡◌, refl, sym, ◌∙◌, subst}
+use mathlib.Core.Path.{◌≡◌, refl, sym, ◌∙◌, ap, subst}
 use Prim.Native.Nat.{ℕ, suc, ◌+◌, ◌-◌, ◌^◌, ◌≤◌, ◌<◌}
 use native.Mathlib.Omega.{arith}
 use lib.ListN.{length, get_or, drop, length-append, length-drop}
-use lib.Seq.{drop-cons}
+use lib.Seq.{get_or-take, get_or-drop, drop-cons}
 use Rattle.text.specs.Lines.{print_line}
 use Rattle.text.specs.Routes.{Branch, branch_of, steps, capped}
-use Rattle.text.specs.WriteSteps.{Put, Filled}
+use Rattle.text.specs.WriteSteps.{Put, Filled, part}
 use Rattle.text.proofs.PlacedLaws.{placed-none, placed-append, put-length}
 
 -- ---- lengths
@@ -97,6 +97,20 @@ step_line line net path k = line (branch_of net (get_or path (k - 1) 0) (get_or 
 -- the lines of the steps to this place and those after it
 abbrev pub steps_left : (Branch → List ℕ) → ℕ → List ℕ → ℕ → List ℕ
 steps_left line net path k = flat_map line (steps net (drop (k - 1) path))
+
+left-start : (line : Branch → List ℕ) (net : ℕ) (path : List ℕ) → steps_left line net path 1 ≡ flat_map line (steps net path)
+left-start line net path = refl
+
+-- where the path is a part of a log, the step to a place of it is that to the same place of the log
+step_of_log : (line : Branch → List ℕ) (net : ℕ) (log : List ℕ) (from to k : ℕ) → from + 1 ≤ k → k < to → step_line line net (part log from to) (k - from) ≡ step_line line net log k
+step_of_log line net log from to k above l =
+    let place : from + (k - from - 1) ≡ k - 1 = omega arith in
+    let place' : from + (k - from) ≡ k = omega arith in
+    let one : get_or (part log from to) (k - from - 1) 0 ≡ get_or log (k - 1) 0 =
+    get_or-take (to - from) (drop from log) (k - from - 1) 0 (omega arith) ∙ get_or-drop from log (k - from - 1) 0 ∙ ap (λ (i : ℕ). get_or log i 0) place in
+    let two : get_or (part log from to) (k - from) 0 ≡ get_or log k 0 =
+    get_or-take (to - from) (drop from log) (k - from) 0 (omega arith) ∙ get_or-drop from log (k - from) 0 ∙ ap (λ (i : ℕ). get_or log i 0) place' in
+    rw (one, two)
 
 module _ (line : Branch → List ℕ) (net : ℕ) (path : List ℕ) (k : ℕ) (above : 1 ≤ k) where
   left-more : k < length path → steps_left line net path k ≡ step_line line net path k ++ steps_left line net path (k + 1)

@@ -1,12 +1,23 @@
--- The line of a branch in a picture: its pieces one behind the other.
+-- The line of a branch in a picture: its length, and its pieces one behind the other.
 -- Assumes nothing.
 use mathlib.Core.List.{List}
-use Prim.Native.Nat.{ℕ}
+use mathlib.Core.Path.{◌≡◌}
+use Prim.Native.Nat.{ℕ, ◌+◌, ◌≤◌}
+use native.Mathlib.Omega.{arith}
+use lib.ListN.{length, length-append}
 use Rattle.text.specs.Decimal.{decimal}
 use Rattle.text.specs.Routes.{branch_of}
 use Rattle.text.specs.Dot.{dot_arrow, dot_label, dot_close, dot_line}
 use Rattle.text.specs.WriteSteps.{Filled}
+use Rattle.text.proofs.DecimalLaws.{decimal-length}
 use Rattle.text.proofs.StepTextLaws.{filled_then}
+
+pub dot_size : (net from to : ℕ) → length (dot_line (branch_of net from to)) ≡ length (decimal from) + length (decimal to) + length (decimal net) + 17
+unfolding dot_line
+dot_size net from to = simp length-append (omega arith)
+
+pub dot_most : (net from to : ℕ) → length (dot_line (branch_of net from to)) ≤ 77
+dot_most net from to = omega (arith, dot_size net from to, decimal-length from, decimal-length to, decimal-length net)
 
 pub dot_filled :
     (net from to : ℕ) {at p₁ p₂ p₃ p₄ p₅ p₆ : ℕ} {b₀ b₁ b₂ b₃ b₄ b₅ b₆ : List ℕ}

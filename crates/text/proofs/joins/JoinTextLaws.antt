@@ -1,26 +1,30 @@
 -- Nets of one source: the marks of those that come first, and the J lines of the others.
 --     FirstMarks, first-               marking the nets that are the first of their source
 --     join-                            the J lines of one net more
+--     counted-all, joins-room          those of all nets are few, and where they fit, each does
 --     JoinsPassed, joins-              going from net to net
 -- Assumes nothing.
 use mathlib.Core.Bool.{Bool, false}
 use mathlib.Core.List.{List, [], ◌∷◌, ◌++◌, append_assoc, append-nil}
 use mathlib.Core.Logic.{⊎_elim}
 use mathlib.Core.Path.{◌≡◌, refl, sym, ◌∙◌, ap, subst}
-use Prim.Native.Nat.{ℕ, zero, suc, ◌+◌, ◌^◌, ◌≤◌, ◌<◌}
+use Prim.Native.Nat.{ℕ, zero, suc, ◌+◌, ◌*◌, ◌-◌, ◌^◌, ◌≤◌, ◌<◌}
+use native.Mathlib.Nat.{add-zero}
 use native.Mathlib.Numerals.{add-one}
 use native.Mathlib.Omega.{arith}
 use lib.Dec.{ltb, eqb}
-use lib.ListN.{get_or, length, replicate, set, length-set, length-replicate}
+use lib.ListN.{get_or, length, replicate, set, length-append, length-set, length-replicate}
 use lib.Seq.{get_or-set_same, get_or-set_other}
 use borrow.Author.Tests.{lt-ltb, le-ltb, eq-eqb, ne_eqb}
-use Rattle.price.specs.Test.{both}
+use Rattle.price.specs.Test.{choose, both}
 use Rattle.price.proofs.TestLaws.{le_or_lt, same_or_not}
 use Rattle.job.specs.Join.{first_of, leads}
 use Rattle.job.specs.Tables.{nets_most}
 use Rattle.text.specs.Lines.{letter_j, print_line}
 use Rattle.text.specs.Routes.{net_writable, Join, joins_before, route_joins, join_text}
-use Rattle.text.specs.WriteSteps.{Filled, net_marked}
+use Rattle.text.specs.WriteSteps.{Put, Filled, net_marked}
+use Rattle.text.proofs.PlacedLaws.{put-length}
+use Rattle.text.proofs.RouteTextLaws.{joins_most}
 use Rattle.text.proofs.StepTextLaws.{filled_none, filled_then}
 
 -- ---- the J lines of one net more
@@ -48,6 +52,50 @@ module _ (sources : List ℕ) (i : ℕ) where
       rw (add-one i, ne_eqb (first_of sources i) i e)
       (join_append (joins_before sources i) (record { net = i; first = first_of sources i } ∷ [])
       ∙ ap (λ (l : List ℕ). joins_to sources i ++ l) (append-nil (join_line sources i)))
+
+-- a net more takes no fewer bytes
+join_rises : (sources : List ℕ) (i k : ℕ) → length (joins_to sources i) ≤ length (joins_to sources (i + k))
+unfolding joins_before
+join_rises sources i zero = rw (add-zero i) (omega arith)
+join_rises sources i (suc k) =
+    let place : i + suc k ≡ suc (i + k) = omega arith in
+    let added : List Join = choose (leads sources (i + k)) [] (record { net = i + k; first = first_of sources (i + k) } ∷ []) in
+    let more = ap length (join_append (joins_before sources (i + k)) added) in
+    rw place (omega (arith, join_rises sources i k, length-append (joins_to sources (i + k)) (join_text added)))
+
+-- ---- how many bytes the lines take
+
+-- those of the nets before one, where no net is left
+pub counted-all :
+    (sources : List ℕ) {bytes net : ℕ} → net ≤ length sources → bytes ≡ length (joins_to sources net) → length sources ≤ net → length sources ≤ nets_most
+    → (bytes ≡ length (join_text (route_joins sources))) × (bytes ≤ 44 * nets_most)
+unfolding route_joins
+counted-all sources {bytes} {net} within counted l most =
+    let end : net ≡ length sources = omega arith in
+    let all : bytes ≡ length (join_text (route_joins sources)) = counted ∙ ap (λ (i : ℕ). length (joins_to sources i)) end in
+    (all, omega (arith, joins_most sources most))
+
+-- the lines before a net are written, where there is room for all: so there is for the next one
+module _ (sources : List ℕ) {before after : List ℕ} {start at net first : ℕ} (room : start + length (join_text (route_joins sources)) ≤ length before) (p : Put start (joins_to sources net) before after at) (l : net < length sources) (is : first ≡ first_of sources net) where
+  to_room : (i : ℕ) → i ≤ length sources → start + length (joins_to sources i) ≤ length before
+  unfolding route_joins
+  to_room i l =
+      let end : i + (length sources - i) ≡ length sources = omega arith in
+      let rises : length (joins_to sources i) ≤ length (joins_to sources (length sources)) = rw end at (join_rises sources i (length sources - i)) in
+      omega arith
+
+  pub joins-room : (first ≡ net → ⊥) → at + length (print_line letter_j (net ∷ first ∷ [])) ≤ length after
+  joins-room e =
+      let later : joins_to sources (net + 1) ≡ joins_to sources net ++ print_line letter_j (net ∷ first ∷ []) =
+      join_later sources net (λ q. e (is ∙ q)) ∙ rw (← is) in
+      omega (
+        arith,
+        to_room (net + 1) (omega arith),
+        ap length later,
+        length-append (joins_to sources net) (print_line letter_j (net ∷ first ∷ [])),
+        put-length p (to_room net (omega arith)),
+        p.next-is,
+      )
 
 -- ---- from net to net
 

@@ -14,9 +14,10 @@ use Rattle.job.specs.declared.Terms.{Terms}
 use Rattle.text.specs.JobText.{Part, part, stopped, and_then, Counts, head_part, NodeLists, node_lists, node_lines, EdgeLists, edge_lists, edge_lines, NetLists, net_lists, net_lines, first_places, job_read, read_text}
 use Rattle.text.specs.ReadReplies.{Tables}
 use Rattle.text.specs.Steps.{row, Within, edge_tables, edges_at, nodes_at, LinesPlace, nets_read_at, NetsEnd}
-use Rattle.text.specs.ReadSteps.{with_nets, nets_after, body_after_nodes, edges_nets_at, with_wires, wires_after, body_after_head, body_at, job_at, CountsWithin, head_read_at, HeadReadPlace}
+use Rattle.text.specs.ReadSteps.{with_nets, nets_after, body_after_nodes, edges_nets_at, with_wires, wires_after, body_after_head, body_at, job_at, JobPlace, CountsWithin, head_read_at, HeadReadPlace}
 use Rattle.std.specs.Prelude.{Result}
 use Rattle.std.specs.Prelude.{Ok, Err}
+use Rattle.text.specs.declared.JobCounts.{JobCounts}
 use Rattle.text.specs.declared.head.HeadRead.{HeadRead}
 use Rattle.text.specs.declared.place.Place.{Place}
 use Rattle.text.specs.declared.place.LineRefusal.{LineRefusal}
@@ -116,6 +117,18 @@ module _ (c : Counts) where
   node_stage (part ns at rest) = edge_stage ns (edge_lines c.nodes c.edges (edge_lists [] []) at rest)
   node_stage (stopped k at) = refl
 
+-- the first line's counts and what the lines after it gave, as one answer
+abbrev pub job_lines : ℕ → ℕ → ℕ → Terms → Result ℕ LineRefusal → Result JobCounts LineRefusal
+job_lines n edges nets terms (Ok count) = Ok (record { nodes = n; edges = edges; nets = nets; sinks = count; terms = terms })
+job_lines n edges nets terms (Err e) = Err e
+
+job_body :
+    (n edges nets end : ℕ) (terms : Terms) (r : Result ℕ LineRefusal) (kinds capacities first_edges edge_targets sources first_sinks sinks delays criticalities : List ℕ)
+    → job_at end (job_lines n edges nets terms r) kinds capacities first_edges edge_targets sources first_sinks sinks delays criticalities
+    ≡ job_after terms (body_at n edges nets end r kinds capacities first_edges edge_targets sources first_sinks sinks delays criticalities)
+job_body n edges nets end terms (Ok count) kinds capacities first_edges edge_targets sources first_sinks sinks delays criticalities = refl
+job_body n edges nets end terms (Err e) kinds capacities first_edges edge_targets sources first_sinks sinks delays criticalities = refl
+
 -- the lines before the nodes, then those from the nodes on
 module _ (text : List ℕ) {x : Result HeadRead LineRefusal} {h : HeadRead} (is : x ≡ Ok h) (read : head_read_at text x ≡ head_part text) (end : ℕ) (kinds capacities first_edges edge_targets sources first_sinks sinks delays criticalities : List ℕ) where
   abbrev body : Result ℕ LineRefusal → Part Tables
@@ -133,17 +146,21 @@ module _ (text : List ℕ) {x : Result HeadRead LineRefusal} {h : HeadRead} (is 
         ∙ rw (← read, is)
 
     pub text_read :
-        {count : ℕ} → r ≡ Ok count
-        → job_at end (Ok (record { nodes = h.counts.nodes; edges = h.counts.edges; nets = h.counts.nets; sinks = count; terms = h.counts.terms }))
-        kinds capacities first_edges edge_targets sources first_sinks sinks delays criticalities ≡ read_text text
-    text_read e = ap (λ (y : Result ℕ LineRefusal). job_after h.counts.terms (body y)) (sym e) ∙ text_body
+        {j : Result JobCounts LineRefusal} → j ≡ job_lines h.counts.nodes h.counts.edges h.counts.nets h.counts.terms r
+        → job_at end j kinds capacities first_edges edge_targets sources first_sinks sinks delays criticalities ≡ read_text text
+    text_read e =
+        ap (λ (y : Result JobCounts LineRefusal). job_at end y kinds capacities first_edges edge_targets sources first_sinks sinks delays criticalities) e
+        ∙ job_body h.counts.nodes h.counts.edges h.counts.nets end h.counts.terms r kinds capacities first_edges edge_targets sources first_sinks sinks delays criticalities
+        ∙ text_body
 
-    pub text_body_stop : {e : LineRefusal} → r ≡ Err e → stopped (row e.fault) e.line ≡ read_text text
-    text_body_stop e = ap (λ (y : Result ℕ LineRefusal). job_after h.counts.terms (body y)) (sym e) ∙ text_body
+-- the counts of a text that was read are within their bounds
+module _ (n edges nets : ℕ) (terms : Terms) (first_sinks : List ℕ) (within : CountsWithin n edges nets) where
+  lines_place : (r : Result ℕ LineRefusal) → NetsEnd nets r first_sinks → JobPlace (job_lines n edges nets terms r)
+  lines_place (Ok count) ended = (within, ended.0)
+  lines_place (Err e) ended = tt
 
--- the sinks of a text that was read are within their bound
-pub few_sinks : (nets : ℕ) (first_sinks : List ℕ) {r : Result ℕ LineRefusal} {count : ℕ} → r ≡ Ok count → NetsEnd nets r first_sinks → count ≤ sinks_most
-few_sinks nets first_sinks {r} {count} is ended = (subst (λ (y : Result ℕ LineRefusal). NetsEnd nets y first_sinks) is ended).0
+  pub job_place : (r : Result ℕ LineRefusal) {j : Result JobCounts LineRefusal} → j ≡ job_lines n edges nets terms r → NetsEnd nets r first_sinks → JobPlace j
+  job_place r is ended = subst JobPlace (sym is) (lines_place r ended)
 
 -- a faulty line before the nodes
 pub text_stop : (text : List ℕ) {x : Result HeadRead LineRefusal} {e : LineRefusal} → x ≡ Err e → head_read_at text x ≡ head_part text → stopped (row e.fault) e.line ≡ read_text text
