@@ -1,6 +1,8 @@
 // The entries of a case's line. After the line's name stands a list of numbers, each after a blank: `4` is an entry, `7*50` fifty of
 // them, and `2-5` is 2 3 4 5. Or there stands a text after one blank: `/` is an LF, `<0>` the byte 0, `<7*40>` forty bytes 7, any other
 // byte itself. What has another form, or does not fit, is printed as malformed.
+ghost use Rattle.std.specs.Prelude.{◌≡◌, ℕ, ◌<◌, ◌≤◌, length, slice_index};
+
 use crate::{lines, show};
 use std::num::TryFromIntError;
 
@@ -30,7 +32,7 @@ fn after(case: &[u8], at: usize) -> usize {
     if at < case.len() { at + 1 } else { at }
 }
 
-// The number that is at this place; past 64 bits it is 2^64 - 1.
+// The number that is at this place; from 18446744073709551610 on it is 2^64 - 1.
 fn number(case: &[u8], from: usize) -> Parsed {
     let mut value: u64 = 0;
     for next in from..case.len() {
@@ -38,7 +40,11 @@ fn number(case: &[u8], from: usize) -> Parsed {
         if !b.is_ascii_digit() {
             return Parsed { value, next };
         }
-        value = value.saturating_mul(10).saturating_add((b - b'0') as u64);
+        value = if value > 1844674407370955160 {
+            u64::MAX
+        } else {
+            value * 10 + (b - b'0') as u64
+        };
     }
     Parsed {
         value,
@@ -146,6 +152,17 @@ fn after_name(case: &[u8], number: usize) -> usize {
     case.len()
 }
 
+// The value as an entry. Where it is too large, that is printed, and the entry has its low bits.
+fn fitted<T: TryFrom<u64, Error = TryFromIntError>>(value: u64) -> Result<T, TryFromIntError> {
+    T::try_from(value)
+        .or_else(|_| {
+            show::malformed();
+            T::try_from(value % 4294967296)
+        })
+        .or_else(|_| T::try_from(value % 65536))
+        .or_else(|_| T::try_from(value % 256))
+}
+
 // Fills the array with the entries from this place on, of which `item` reads the next: those that are filled.
 fn filled<'a, T: Copy + TryFrom<u64, Error = TryFromIntError>, F: Fn(&[u8], usize) -> Rest>(
     case: &[u8],
@@ -154,15 +171,15 @@ fn filled<'a, T: Copy + TryFrom<u64, Error = TryFromIntError>, F: Fn(&[u8], usiz
     into: &'a mut [T],
 ) -> &'a mut [T]
     requires { F.IsAlwaysCallable item }
+    ensures { length result.now ≤ length into.old }
 {
     let mut rest = item(case, from);
     for k in 0..into.len() {
         if rest.left == 0 {
             return &mut into[..k];
         }
-        match T::try_from(rest.value) {
-            Ok(entry) => into[k] = entry,
-            Err(_) => show::malformed(),
+        if let Ok(entry) = fitted(rest.value) {
+            into[k] = entry;
         }
         rest.value = rest.value.wrapping_add(rest.step);
         rest.left -= 1;
@@ -181,7 +198,9 @@ pub fn entries<'a, T: Copy + TryFrom<u64, Error = TryFromIntError>>(
     case: &[u8],
     number: usize,
     into: &'a mut [T],
-) -> &'a mut [T] {
+) -> &'a mut [T]
+    ensures { length result.now ≤ length into.old }
+{
     filled(case, after_name(case, number), list_item, into)
 }
 
@@ -191,7 +210,9 @@ pub fn entries_if<'a, T: Copy + TryFrom<u64, Error = TryFromIntError>>(
     case: &[u8],
     number: usize,
     into: &'a mut [T],
-) -> &'a mut [T] {
+) -> &'a mut [T]
+    ensures { length result.now ≤ length into.old }
+{
     if there {
         entries(case, number, into)
     } else {
@@ -200,17 +221,33 @@ pub fn entries_if<'a, T: Copy + TryFrom<u64, Error = TryFromIntError>>(
 }
 
 // The text of the case's line of this number.
-pub fn text<'a>(case: &[u8], number: usize, into: &'a mut [u8]) -> &'a mut [u8] {
+pub fn text<'a>(case: &[u8], number: usize, into: &'a mut [u8]) -> &'a mut [u8]
+    ensures { length result.now ≤ length into.old }
+{
     filled(case, after(case, after_name(case, number)), text_item, into)
 }
 
 // An array's first entries, this many, which it must have.
-pub fn first<'a, T>(count: u32, array: &'a mut [T]) -> &'a mut [T] {
+pub fn first<'a, T>(count: u32, array: &'a mut [T]) -> &'a mut [T]
+    ensures so_many { count ≤ length array.old → length result.now ≡ count }
+    ensures no_more { length result.now ≤ length array.old }
+    ensures whole { length array.old < count → length result.now ≡ length array.old }
+{
     if array.len() < count as usize {
         show::malformed();
         return array;
     }
     &mut array[..count as usize]
+}
+
+// The numbers of a line, as many as a call has at most: those that are missing are 0.
+pub fn padded<const N: usize>(numbers: &[u32]) -> [u32; N]
+    ensures { (k : ℕ) → k < N → slice_index result k ≡ slice_index numbers.now k }
+{
+    let mut all = [0; N];
+    let some = N.min(numbers.len());
+    all[..some].copy_from_slice(&numbers[..some]);
+    all
 }
 
 // This many numbers stand in a line.

@@ -2,7 +2,7 @@
 // docs/CASES.md describes: the answer, then every table and buffer afterwards. The expected lines stand in the file stdout.
 #![tactic(auto)]
 
-use cases::{lines, read, show};
+use cases::{Program, lines, read, show};
 use text::Style;
 
 // The calls: `run`, and `respond` in a style.
@@ -78,8 +78,11 @@ fn call_case(call: Call, job: &[u8], lengths: [u32; 3]) {
     show::entries(&delay);
     show::entries(&criticality);
     show::entries(work);
+    read::exactly(work.len(), lengths[0] as usize);
     show::entries(log);
+    read::exactly(log.len(), lengths[1] as usize);
     show::text(routes);
+    read::exactly(routes.len(), lengths[2] as usize);
 }
 
 // The call that the case names, by its second letter.
@@ -92,20 +95,25 @@ fn named(letter: u8) -> Option<Call> {
     }
 }
 
-fn one(case: &[u8]) {
-    let mut n = [0u32; 3];
-    let mut job = [0u8; 65600];
-    show::name(case);
-    let n = read::entries(case, 1, &mut n);
-    let job = read::text(case, 2, &mut job);
-    read::end(case, 3);
-    match (named(lines::call(case, 1)), n) {
-        (Some(call), &mut [work, log, routes]) => call_case(call, job, [work, log, routes]),
-        _ => show::malformed(),
+struct FlowTest;
+
+impl Program for FlowTest {
+    fn one(text: &[u8]) {
+        let mut n = [0u32; 3];
+        let mut job = [0u8; 65600];
+        show::name(text);
+        let n = read::entries(text, 1, &mut n);
+        let job = read::text(text, 2, &mut job);
+        read::exactly(n.len(), 3);
+        read::end(text, 3);
+        match named(lines::call(text, 1)) {
+            Some(call) => call_case(call, job, read::padded(n)),
+            None => show::malformed(),
+        }
+        show::line_end();
     }
-    show::line_end();
 }
 
 fn main() {
-    cases::each(one)
+    cases::each::<FlowTest>()
 }

@@ -4,7 +4,7 @@
 
 ghost use Rattle.std.specs.Prelude.{◌≤◌};
 
-use cases::{lines, read, show};
+use cases::{Program, lines, read, show};
 use job::{JobTables, Tables, Terms};
 use negotiation::RouteAnswer;
 use price::Tuning;
@@ -34,15 +34,27 @@ struct Asked {
 
 // The numbers of line 2: the limit, the tuning, the rule and its k, whether the job is timed, which search it is, and two more. Which
 // search it is may be left out, and with it the last of the terms.
-fn said(n: &[u32]) -> Option<Asked> {
-    let &[limit, first, up, down, step, rule, until, ref rest @ ..] = n else {
-        return None;
-    };
-    let (timed, aimed, last) = match *rest {
-        [timed, aimed, first, second] => (1 <= timed, 1 <= aimed, [first, second]),
-        [timed, first, second] => (1 <= timed, false, [first, second]),
-        [first, second] => (false, false, [first, second]),
-        _ => return None,
+fn said(n: &[u32]) -> Asked {
+    let [
+        limit,
+        first,
+        up,
+        down,
+        step,
+        rule,
+        until,
+        eighth,
+        ninth,
+        tenth,
+        last,
+    ] = read::padded::<11>(n);
+    let (timed, aimed, lengths) = match n.len() {
+        11 => (1 <= eighth, 1 <= ninth, [tenth, last]),
+        10 => (1 <= eighth, false, [ninth, tenth]),
+        count => {
+            read::exactly(count, 9);
+            (false, false, [eighth, ninth])
+        }
     };
     let tuning = Tuning {
         first,
@@ -57,13 +69,13 @@ fn said(n: &[u32]) -> Option<Asked> {
         until,
         timed,
     };
-    Some(Asked {
+    Asked {
         terms,
         aimed,
-        first: last[0],
-        second: last[1],
-        whole: rest.len() > 2,
-    })
+        first: lengths[0],
+        second: lengths[1],
+        whole: n.len() > 9,
+    }
 }
 
 // The router, with a work slice and a log as long as the case says: the answer, the work slice and the log.
@@ -141,20 +153,20 @@ fn block(text: &[u8], n: Asked) {
     nets(text, tables, n);
 }
 
-fn one(text: &[u8]) {
-    let mut numbers = [0u32; 11];
-    show::name(text);
-    match said(read::entries(text, 1, &mut numbers)) {
-        Some(n) => {
-            // that of a resume has a line for the log
-            read::end(text, after_tables(n.whole) + resumes(text) as usize);
-            block(text, n);
-        }
-        None => show::malformed(),
+struct NegotiationTest;
+
+impl Program for NegotiationTest {
+    fn one(text: &[u8]) {
+        let mut numbers = [0u32; 11];
+        show::name(text);
+        let n = said(read::entries(text, 1, &mut numbers));
+        // that of a resume has a line for the log
+        read::end(text, after_tables(n.whole) + resumes(text) as usize);
+        block(text, n);
+        show::line_end();
     }
-    show::line_end();
 }
 
 fn main() {
-    cases::each(one)
+    cases::each::<NegotiationTest>()
 }

@@ -2,7 +2,7 @@
 // expected lines stand in the file stdout.
 #![tactic(auto)]
 
-use cases::{lines, read, show};
+use cases::{Program, lines, read, show};
 use price::{BadNumber, Numbers, Tuning};
 
 fn price_answer(answer: Result<u64, BadNumber>) {
@@ -14,9 +14,7 @@ fn price_answer(answer: Result<u64, BadNumber>) {
 
 // A price, or that of a timed job, by the call's third letter and the numbers of its line.
 fn priced(letter: u8, n: &[u32]) {
-    let &[kind, factor, others, capacity, history, ref rest @ ..] = n else {
-        return show::malformed();
-    };
+    let [kind, factor, others, capacity, history, delay, criticality] = read::padded::<7>(n);
     let numbers = Numbers {
         kind,
         factor,
@@ -24,35 +22,37 @@ fn priced(letter: u8, n: &[u32]) {
         capacity,
         history,
     };
-    match (letter, rest) {
-        (b'i', []) => price_answer(price::price(numbers)),
-        (b'm', &[delay, criticality]) => price_answer(price::timed_price(
-            numbers,
-            delay,
-            criticality,
-        )),
-        _ => show::malformed(),
-    }
+    price_answer(if letter == b'm' {
+        read::exactly(n.len(), 7);
+        price::timed_price(numbers, delay, criticality)
+    } else {
+        read::exactly(n.len(), 5);
+        price::price(numbers)
+    });
 }
 
-// Whether a tuning is sound, a factor or a history.
+// Whether a tuning is sound, the factor after an iteration and its factor, or the history after a history, users and capacity.
 fn tuned(letter: u8, n: &[u32]) {
-    let &[first, up, down, step, ref rest @ ..] = n else {
-        return show::malformed();
-    };
+    let [first, up, down, step, fifth, sixth, seventh] = read::padded::<7>(n);
     let tuning = Tuning {
         first,
         up,
         down,
         step,
     };
-    let answer = match (letter, rest) {
-        (b'n', []) => price::tuning_sound(tuning) as u64,
-        (b'c', &[iteration, factor]) => price::next_factor(tuning, iteration, factor) as u64,
-        (b's', &[history, users, capacity]) => price::next_history(
-            tuning, history, users, capacity,
-        ),
-        _ => return show::malformed(),
+    let answer = match letter {
+        b'n' => {
+            read::exactly(n.len(), 4);
+            price::tuning_sound(tuning) as u64
+        }
+        b'c' => {
+            read::exactly(n.len(), 6);
+            price::next_factor(tuning, fifth, sixth) as u64
+        }
+        _ => {
+            read::exactly(n.len(), 7);
+            price::next_history(tuning, fifth, sixth, seventh)
+        }
     };
     show::answered(&[answer]);
 }
@@ -66,14 +66,18 @@ fn call(letter: u8, n: &[u32]) {
     }
 }
 
-fn one(case: &[u8]) {
-    let mut n = [0u32; 7];
-    show::name(case);
-    call(lines::call(case, 2), read::entries(case, 1, &mut n));
-    read::end(case, 2);
-    show::line_end();
+struct PriceTest;
+
+impl Program for PriceTest {
+    fn one(text: &[u8]) {
+        let mut n = [0u32; 7];
+        show::name(text);
+        call(lines::call(text, 2), read::entries(text, 1, &mut n));
+        read::end(text, 2);
+        show::line_end();
+    }
 }
 
 fn main() {
-    cases::each(one)
+    cases::each::<PriceTest>()
 }

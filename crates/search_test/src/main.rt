@@ -2,7 +2,7 @@
 // which docs/CASES.md describes: the answer and the whole work slice afterwards. The expected lines stand in the file stdout.
 #![tactic(auto)]
 
-use cases::{lines, read, show};
+use cases::{Program, lines, read, show};
 use price::Weighting;
 use search::{Back, Prices, Refusal, Tables};
 
@@ -168,20 +168,23 @@ fn tables(text: &[u8], weighting: Weighting, factor: u32) {
     lists(text, tables, weighting, factor);
 }
 
-// The case, timed or not, by its call's first letter.
-fn one(text: &[u8]) {
-    let mut n = [0u32; 2];
-    let timed = lines::call(text, 0) == b't';
-    let (factor, criticality) = match (timed, read::entries(text, 1, &mut n)) {
-        (false, &mut [factor]) => (factor, 0),
-        (true, &mut [factor, criticality]) => (factor, criticality),
-        _ => return show::malformed(),
-    };
-    let weighting = Weighting { timed, criticality };
-    read::end(text, line(weighting, if aims(text) { 13 } else { 11 }));
-    tables(text, weighting, factor);
+struct SearchTest;
+
+impl Program for SearchTest {
+    // The case, timed or not, by its call's first letter.
+    fn one(text: &[u8]) {
+        let mut n = [0u32; 2];
+        let timed = lines::call(text, 0) == b't';
+        let n = read::entries(text, 1, &mut n);
+        read::exactly(n.len(), 1 + timed as usize);
+        let [factor, second] = read::padded::<2>(n);
+        let criticality = if timed { second } else { 0 };
+        let weighting = Weighting { timed, criticality };
+        read::end(text, line(weighting, if aims(text) { 13 } else { 11 }));
+        tables(text, weighting, factor);
+    }
 }
 
 fn main() {
-    cases::each(one)
+    cases::each::<SearchTest>()
 }

@@ -2,7 +2,7 @@
 // whole routes buffer, afterwards. The expected lines stand in the file stdout.
 #![tactic(auto)]
 
-use cases::{lines, read, show};
+use cases::{Program, lines, read, show};
 use job::Refused;
 use text::{JobCounts, ReadRefusal, WriteRefusal};
 
@@ -41,6 +41,12 @@ fn write_answer(answer: Result<usize, WriteRefusal>) {
     }
 }
 
+// The entries of a table that the case wants to have this length.
+fn lent<N: Copy + Into<u64>>(table: &[N], length: u32) {
+    show::entries(table);
+    read::exactly(table.len(), length as usize);
+}
+
 // A job text into tables of 7s of these lengths, and every table afterwards.
 fn read_tables(job: &[u8], lengths: [u32; 9]) {
     let mut kind = [7u8; 16];
@@ -73,37 +79,34 @@ fn read_tables(job: &[u8], lengths: [u32; 9]) {
         delay,
         criticality,
     ));
-    show::entries(kind);
-    show::entries(capacity);
-    show::entries(first_edge);
-    show::entries(edge_target);
-    show::entries(source);
-    show::entries(first_sink);
-    show::entries(sink);
-    show::entries(delay);
-    show::entries(criticality);
+    lent(kind, lengths[0]);
+    lent(capacity, lengths[1]);
+    lent(first_edge, lengths[2]);
+    lent(edge_target, lengths[3]);
+    lent(source, lengths[4]);
+    lent(first_sink, lengths[5]);
+    lent(sink, lengths[6]);
+    lent(delay, lengths[7]);
+    lent(criticality, lengths[8]);
 }
 
 // The reader on the job text of line 2, with lengths for tables 1 to 7, or for 9 and 10 too, which are empty without.
 fn read_case(case: &[u8], n: &[u32]) {
-    let lengths = match *n {
-        [a, b, c, d, e, f, g] => [a, b, c, d, e, f, g, 0, 0],
-        [a, b, c, d, e, f, g, h, i] => [a, b, c, d, e, f, g, h, i],
-        _ => return show::malformed(),
-    };
     let mut job = [0u8; 1024];
-    read_tables(read::text(case, 2, &mut job), lengths);
+    if n.len() != 7 {
+        read::exactly(n.len(), 9);
+    }
+    read_tables(read::text(case, 2, &mut job), read::padded(n));
     read::end(case, 3);
 }
 
 // The writer of the text that the letter names, on table 5 and the log of lines 2 and 3, with a routes buffer of 7s.
 fn write_case(letter: u8, case: &[u8], n: &[u32]) {
-    let &[length] = n else {
-        return show::malformed();
-    };
     let mut source = [0u16; 520];
     let mut log = [0u32; 4200];
     let mut routes = [7u8; 64];
+    let [length] = read::padded::<1>(n);
+    read::exactly(n.len(), 1);
     let source = read::entries(case, 2, &mut source);
     let log = read::entries(case, 3, &mut log);
     let routes = read::first(length, &mut routes);
@@ -115,18 +118,22 @@ fn write_case(letter: u8, case: &[u8], n: &[u32]) {
     read::end(case, 4);
 }
 
-fn one(case: &[u8]) {
-    let mut n = [0u32; 9];
-    show::name(case);
-    let n = read::entries(case, 1, &mut n);
-    match lines::call(case, 0) {
-        b'r' => read_case(case, n),
-        letter @ (b'w' | b'd') => write_case(letter, case, n),
-        _ => show::malformed(),
+struct TextTest;
+
+impl Program for TextTest {
+    fn one(text: &[u8]) {
+        let mut n = [0u32; 9];
+        show::name(text);
+        let n = read::entries(text, 1, &mut n);
+        match lines::call(text, 0) {
+            b'r' => read_case(text, n),
+            letter @ (b'w' | b'd') => write_case(letter, text, n),
+            _ => show::malformed(),
+        }
+        show::line_end();
     }
-    show::line_end();
 }
 
 fn main() {
-    cases::each(one)
+    cases::each::<TextTest>()
 }
