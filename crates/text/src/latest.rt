@@ -38,18 +38,21 @@ pub fn latest_records(log: &[u32]) -> Latest
     requires { AllSound log.now }
     ensures { LatestPlaces log.now result.from result.to }
 {
-    let mut from = [0usize; NETS_MOST];
-    let mut to = [0usize; NETS_MOST];
+    // Made where it stands: two lists that are put together at the end would be copied.
+    let mut latest = Latest {
+        from: [0; NETS_MOST],
+        to: [0; NETS_MOST],
+    };
     let mut at = 0;
     // A record's length stands in it: the next place is known only at the record.
     while at < log.len() {
         let record = log_check::record_at(log, at);
         let net = record.net as usize;
-        if begins_anew(log, at, from[net], to[net]) {
-            from[net] = at;
+        if begins_anew(log, at, latest.from[net], latest.to[net]) {
+            latest.from[net] = at;
         }
-        to[net] = record.end;
+        latest.to[net] = record.end;
         at = record.end;
     }
-    Latest { from, to }
+    latest
 }

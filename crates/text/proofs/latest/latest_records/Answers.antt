@@ -20,17 +20,17 @@ loop-at-init c = finding_none _ _ _ c.requires refl refl (λ i. (unmarked_new 51
 pub record_at-record-requires : goal.record_at-record-requires
 record_at-record-requires c = rest_fits c.loop-at.invariant.rest c.loop-at-test.true
 
-pub bounds-from-net : goal.bounds-from-net
-bounds-from-net c = few (goal.at.bounds-from-net c).After-record_at-record
+pub bounds-latest-net : goal.bounds-latest-net
+bounds-latest-net c = few (goal.at.bounds-latest-net c).After-record_at-record
 
-pub bounds-to-net : goal.bounds-to-net
-bounds-to-net c = few (goal.at.bounds-to-net c).After-record_at-record
+pub bounds-latest-net-in-loop-at : goal.bounds-latest-net-in-loop-at
+bounds-latest-net-in-loop-at c = few (goal.at.bounds-latest-net-in-loop-at c).After-record_at-record
 
-pub bounds-from-net-then-begins_anew : goal.bounds-from-net-then-begins_anew
-bounds-from-net-then-begins_anew c = few (goal.at.bounds-from-net-then-begins_anew c).After-record_at-record
+pub bounds-latest-net-then-begins_anew : goal.bounds-latest-net-then-begins_anew
+bounds-latest-net-then-begins_anew c = few (goal.at.bounds-latest-net-then-begins_anew c).After-record_at-record
 
-pub bounds-to-net-in-loop-at : goal.bounds-to-net-in-loop-at
-bounds-to-net-in-loop-at c = few (goal.at.bounds-to-net-in-loop-at c).After-record_at-record
+pub bounds-latest-net-in-loop-at-2 : goal.bounds-latest-net-in-loop-at-2
+bounds-latest-net-in-loop-at-2 c = few (goal.at.bounds-latest-net-in-loop-at-2 c).After-record_at-record
 
 pub begins_anew-requires : goal.begins_anew-requires
 begins_anew-requires c = (finding_from c.loop-at.invariant c.loop-at-test.true c.record_at-record.ensures, c.loop-at-test.true)
@@ -39,8 +39,8 @@ pub loop-at-preserved : goal.loop-at-preserved
 loop-at-preserved c =
     let read = c.record_at-record.ensures in
     elim c.if-begins_anew.branch [
-      | then-begins_anew w ↦ rw w.from-is (finding_anew c.loop-at.invariant c.loop-at-test.true read c.begins_anew.ensures w.if-begins_anew.true)
-      | else-begins_anew w ↦ rw w.from-is (finding_same c.loop-at.invariant c.loop-at-test.true read c.begins_anew.ensures w.if-begins_anew.false)
+      | then-begins_anew w ↦ rw w.latest-is (finding_anew c.loop-at.invariant c.loop-at-test.true read c.begins_anew.ensures w.if-begins_anew.true)
+      | else-begins_anew w ↦ rw w.latest-is (finding_same c.loop-at.invariant c.loop-at-test.true read c.begins_anew.ensures w.if-begins_anew.false)
     ]
 
 pub returns : goal.returns

@@ -6,7 +6,7 @@ use Rattle.text.proofs.latest.LatestLaws.{Finding}
 use Rattle.text.proofs.latest.latest_records.Given as goal
 
 abbrev pub invariant-loop-at : goal.invariant-loop-at
-invariant-loop-at l = Finding l.log l.from l.to l.at
+invariant-loop-at l = Finding l.log l.latest.from l.latest.to l.at
 
 abbrev pub decreases-loop-at : goal.decreases-loop-at
 decreases-loop-at l = length l.log - l.at
