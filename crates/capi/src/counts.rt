@@ -1,6 +1,6 @@
 // Counts of uses that a caller lends as a slice.
 ghost use Rattle.std.specs.Prelude.{◌≡◌, ◌≤◌, length, take, drop};
-ghost use Rattle.search.specs.Lent.{block_in};
+ghost use Rattle.search.specs.Block.{block_in};
 ghost use Rattle.uses.specs.Uses.{kind_count, use_counts_of, add_reply_of, add_reply, print_reply_of, print_reply};
 
 use search::Tables;

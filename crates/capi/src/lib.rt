@@ -6,7 +6,7 @@ ghost use Rattle.std.specs.Prelude.{[], ◌≡◌, get_or, take};
 ghost use Rattle.search.specs.Block.{block_of};
 ghost use Rattle.search.specs.Turn.{congestion_of, timed_congestion};
 ghost use Rattle.job.specs.Job.{job_of};
-ghost use Rattle.job.specs.Lent.{job_in};
+ghost use Rattle.job.specs.Job.{job_in};
 ghost use Rattle.negotiation.specs.Records.{decode};
 ghost use Rattle.negotiation.specs.Outcome.{route_reply};
 ghost use Rattle.negotiation.specs.Resume.{resume_reply};

@@ -3,7 +3,7 @@ ghost use Rattle.std.specs.Prelude.{[], ◌∷◌, ◌≡◌, ◌+◌, ◌≤◌
 ghost use Rattle.price.specs.Test.{choose};
 ghost use Rattle.price.specs.Replies.{price_reply_of};
 ghost use Rattle.search.specs.Replies.{search_refusal};
-ghost use Rattle.job.specs.Refused.{numbers_if};
+ghost use Rattle.job.specs.Tables.{numbers_if};
 ghost use Rattle.negotiation.specs.Outcome.{route_refusal};
 ghost use Rattle.text.specs.ReadReplies.{terms_numbers, read_refusal, read_numbers};
 ghost use Rattle.text.specs.Routes.{write_refusal, written_bytes};

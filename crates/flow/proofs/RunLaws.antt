@@ -19,7 +19,7 @@ use Rattle.search.proofs.BlockLaws as block
 use Rattle.job.specs.Tables.{nets_most, faulty_job, exceeds, SoundJob}
 use Rattle.job.specs.Job.{Job, job_of, if_timed, nodes, nets}
 use Rattle.job.specs.Join.{joined}
-use Rattle.job.specs.Refused.{told, refused_numbers}
+use Rattle.job.specs.Tables.{told, refused_numbers}
 use Rattle.job.specs.declared.refused.Refused.{Refused}
 use Rattle.negotiation.specs.Records.{Record, encode}
 use Rattle.negotiation.specs.Machine.{Progress, settles_at}

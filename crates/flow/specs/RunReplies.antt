@@ -4,7 +4,7 @@
 use Rattle.std.specs.Prelude.{List, [], ◌∷◌, ℕ, ltb, length, take, Result, Ok, Err}
 use Rattle.price.specs.Test.{choose}
 use Rattle.job.specs.Job.{Job}
-use Rattle.job.specs.Refused.{refused_numbers}
+use Rattle.job.specs.Tables.{refused_numbers}
 use Rattle.job.specs.declared.refused.Refused.{Refused}
 use Rattle.negotiation.specs.Outcome.{RouteReply, route_reply}
 use Rattle.text.specs.Lines.{letter_x}

@@ -3,7 +3,7 @@
 use Rattle.std.specs.Prelude.{List, ℕ, Result, Ok, Err}
 use Rattle.text.specs.Lines.{letter_x}
 use Rattle.text.specs.LineReplies.{PlaceReply, place_reply_of, line_reply}
-use Rattle.job.specs.Refused.{refused_numbers}
+use Rattle.job.specs.Tables.{refused_numbers}
 use Rattle.job.specs.declared.refused.Refused.{Refused}
 
 -- what an answer leaves in the routes buffer: the text that is there already, or the line of the refusal

@@ -3,7 +3,7 @@
 
 ghost use Rattle.std.specs.Prelude.{◌≡◌};
 ghost use Rattle.price.specs.Test.{choose};
-ghost use Rattle.job.specs.Lent.{job_in};
+ghost use Rattle.job.specs.Job.{job_in};
 ghost use Rattle.text.specs.ReadReplies.{Tables, tables_of};
 ghost use Rattle.text.specs.LineReplies.{place_reply_of};
 ghost use Rattle.flow.specs.RunReplies.{lent_of, route_run, run_reply, run_reply_of, response_of, response};

@@ -1,6 +1,6 @@
 // The line of a refusal.
 ghost use Rattle.std.specs.Prelude.{◌≡◌};
-ghost use Rattle.job.specs.Refused.{refused_numbers};
+ghost use Rattle.job.specs.Tables.{refused_numbers};
 ghost use Rattle.text.specs.Lines.{letter_x};
 ghost use Rattle.text.specs.LineReplies.{place_reply_of, line_reply};
 

@@ -30,7 +30,7 @@ use Rattle.price.proofs.TestLaws.{by_test, le_or_lt, both_true, both_false_right
 use Rattle.price.proofs.ListLaws.{every-all, every-none, neighbours-all, neighbours-none, length_up_to, get_or_up_to, part_slice}
 use Rattle.search.specs.Block.{Block}
 use Rattle.search.specs.Block as block
-use Rattle.search.specs.Lent.{tested}
+use Rattle.search.specs.Replies.{tested}
 use Rattle.search.specs.Tables.{faulty_table, delays_sound}
 use Rattle.search.specs.Turn.{Congestion, weighed_congestion}
 use Rattle.search.specs.Replies.{work_needed, bad_node, too_many, bad_criticality, refusal_of, sinks_most, faulty_with_delays, faulty_with_sinks, fitting, path_reply_of, path_reply}

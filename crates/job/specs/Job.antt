@@ -7,6 +7,7 @@ use Rattle.price.specs.Tuning.{plain}
 use Rattle.search.specs.Block.{Block}
 use Rattle.search.specs.Block as b
 use Rattle.job.specs.declared.Terms.{Terms}
+use Rattle.job.specs.declared.JobTables.{JobTables}
 
 -- "The router is lent seven tables, each of exactly its length", with table 8 and by request 2.9 two more
 pub record Job : Type 0 where
@@ -68,3 +69,10 @@ job_of kinds capacities first_edges edge_targets sources first_sinks sinks delay
       criticalities = if_timed terms criticalities;
       terms = terms;
     }
+
+-- the job in the tables that a caller lends
+abbrev pub job_in : JobTables → Job
+job_in t =
+    let b = t.block in
+    job_of b.kind.now b.capacity.now b.first_edge.now b.edge_target.now t.source.now t.first_sink.now t.sink.now t.delay.now
+    t.criticality.now t.terms

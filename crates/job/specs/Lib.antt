@@ -1,6 +1,4 @@
 pub mod Job
-pub mod Lent
-pub mod Refused
 pub mod Tables
 pub mod Join
 pub mod Steps

@@ -1,7 +1,7 @@
 -- Document 01, "Tables and bounds", with the pins' kinds of request 2.5 and the two tables of timed jobs of request 2.9: the rules of
 -- tables 5 to 10, and the lowest table of all that breaks its rule. A table's length is part of its rule.
 -- Assumes nothing.
-use Rattle.std.specs.Prelude.{Bool, true, not, List, ◌≡◌, ℕ, ◌+◌, leb, ltb, eqb, length, get_or}
+use Rattle.std.specs.Prelude.{Bool, true, not, List, [], ◌∷◌, ◌≡◌, ℕ, ◌+◌, leb, ltb, eqb, length, get_or, Option, Some, None}
 use Rattle.price.specs.Test.{choose, both, either}
 use Rattle.price.specs.Bounds.{limit_most, criticality_most, timed_nodes_most, timed_limit_most}
 use Rattle.price.specs.Lists.{every, neighbours, has, distinct, up_to}
@@ -10,6 +10,7 @@ use Rattle.search.specs.Tables.{faulty_table, delays_sound, Sound}
 use Rattle.search.specs.Replies.{sinks_most}
 use Rattle.job.specs.Job.{Job, nodes, nets, sinks_between}
 use Rattle.job.specs.declared.Terms.{Terms}
+use Rattle.job.specs.declared.refused.Refused.{Refused}
 
 -- "1 to 512 nets"
 abbrev pub nets_most : ℕ
@@ -123,3 +124,17 @@ pub record SoundJob (j : Job) : Type 0 where
   pub terms_sound_lem : terms_sound j.terms ≡ true
   pub delays_sound_lem : j.terms.timed ≡ true → delays_sound (nodes j) j.delays ≡ true
   pub criticalities_sound_lem : j.terms.timed ≡ true → criticalities_sound (length j.sinks) j.criticalities ≡ true
+
+-- the numbers beside a refusal's own that there are
+abbrev pub told : Option ℕ → List ℕ
+told None = []
+told (Some n) = n ∷ []
+
+-- a refusal's numbers, as document 01's table "Numbers for a stopped call" lists them: its own, then those beside it
+abbrev pub refused_numbers : Refused → List ℕ
+refused_numbers r = r.number ∷ r.first ∷ told r.second
+
+-- the same where something is refused, else none
+abbrev pub numbers_if : Option Refused → List ℕ
+numbers_if None = []
+numbers_if (Some r) = refused_numbers r

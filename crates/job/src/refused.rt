@@ -13,7 +13,7 @@ pub struct Refused {
 
 impl From<BadNumber> for Refused {
     ghost use Rattle.std.specs.Prelude.{[], ◌∷◌, ◌≡◌};
-    ghost use Rattle.job.specs.Refused.{refused_numbers};
+    ghost use Rattle.job.specs.Tables.{refused_numbers};
 
     ghost from_gives = { λ bad refused. refused_numbers refused ≡ 13 ∷ bad.place ∷ [] };
 
@@ -29,7 +29,7 @@ impl From<BadNumber> for Refused {
 impl From<Refusal> for Refused {
     ghost use Rattle.std.specs.Prelude.{◌≡◌};
     ghost use Rattle.search.specs.Replies.{refusal_numbers};
-    ghost use Rattle.job.specs.Refused.{refused_numbers};
+    ghost use Rattle.job.specs.Tables.{refused_numbers};
 
     ghost from_gives = { λ refusal refused. refused_numbers refused ≡ refusal_numbers refusal };
 

@@ -2,11 +2,12 @@
 ghost use Rattle.std.specs.Prelude.{true, [], ◌≡◌, ℕ, ◌≤◌, ◌<◌, ltb, length, get_or};
 ghost use Rattle.price.specs.Bounds.{nodes_most};
 ghost use Rattle.price.specs.Lists.{neighbours};
-ghost use Rattle.search.specs.Lent.{block_in, tested};
+ghost use Rattle.search.specs.Block.{block_in};
+ghost use Rattle.search.specs.Replies.{tested};
 ghost use Rattle.search.specs.Tables.{faulty_table};
 ghost use Rattle.search.specs.Turn.{weighed_congestion};
 ghost use Rattle.search.specs.Replies.{faulty_with_delays};
-ghost use Rattle.job.specs.Lent.{job_in};
+ghost use Rattle.job.specs.Job.{job_in};
 ghost use Rattle.job.specs.Steps.{AllBelow, Stored, sinks_free};
 ghost use Rattle.job.specs.Tables.{nets_most, sources_sound, first_sinks_sound, net_sound, sinks_sound, faulty_nets};
 ghost use Rattle.job.specs.Tables.{criticalities_sound, faulty_times, faulty_job};

@@ -25,7 +25,7 @@ use Rattle.search.specs.Distance.{far}
 use Rattle.search.specs.Aimed.{weight_at, expands, expanded, expanded_by}
 use Rattle.search.specs.AimedReplies.{AimedPathReply, aimed_path_reply, aimed_path_reply_of}
 use Rattle.std.specs.Prelude.{Option, Some, None, Result, Ok, Err}
-use Rattle.search.specs.Lent.{back_in}
+use Rattle.search.specs.Block.{back_in}
 use Rattle.search.specs.declared.Back.{Back}
 use Rattle.search.specs.declared.Joins.{Joins}
 use Rattle.search.specs.declared.AimedTurn.{AimedTurn}

@@ -12,7 +12,7 @@ use Rattle.std.specs.Prelude.{Result, Ok, Err}
 use Rattle.price.proofs.TestLaws.{by_test, true≢false}
 use Rattle.std.proofs.lemmas.Result.{err_from_is_err_and}
 use Rattle.std.specs.Result.{IsErrAnd}
-use Rattle.search.specs.Lent.{tested}
+use Rattle.search.specs.Replies.{tested}
 use Rattle.search.specs.declared.BadTable.{BadTable as Bad}
 use Rattle.search.proofs.TestedLaws.{tested_bad}
 use Rattle.search.specs.Replies.{work_needed, cleared}

@@ -17,7 +17,7 @@ use Rattle.search.specs.Replies.{node_sound, sink_list_sound}
 use Rattle.search.specs.Priceable.{Weighable}
 use Rattle.search.specs.declared.Joins.{Joins}
 use Rattle.search.specs.declared.Back.{Back}
-use Rattle.search.specs.Lent.{back_in}
+use Rattle.search.specs.Block.{back_in}
 use Rattle.job.specs.Job.{Job, nets}
 use Rattle.negotiation.specs.Outcome.{unreachable_net, unreachable_place}
 use Rattle.negotiation.specs.TariffSteps.{logged_tariff}

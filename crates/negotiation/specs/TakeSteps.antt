@@ -7,7 +7,7 @@ use Rattle.std.proofs.Math.Seq.{slice}
 use Rattle.price.specs.Test.{choose, both, either}
 use Rattle.price.specs.Lists.{has, up_to}
 use Rattle.price.specs.declared.Weighting.{Weighting}
-use Rattle.search.specs.Lent.{block_in}
+use Rattle.search.specs.Block.{block_in}
 use Rattle.search.specs.Distance.{tree_has}
 use Rattle.search.specs.Turn.{Congestion, weighed_congestion, price_at, turn}
 use Rattle.search.specs.Replies.{sink_list_sound}

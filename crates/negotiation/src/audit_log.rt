@@ -1,7 +1,7 @@
 // An audit of a job of joined nets: refusal 7, then the log is followed, each turn held against the search.
 ghost use Rattle.std.specs.Prelude.{true, ◌≡◌, ◌*◌, ◌≤◌, length, take};
 ghost use Rattle.job.specs.Job.{nodes};
-ghost use Rattle.job.specs.Lent.{job_in};
+ghost use Rattle.job.specs.Job.{job_in};
 ghost use Rattle.negotiation.specs.Routable.{Routable};
 ghost use Rattle.negotiation.specs.Outcome.{first_progress, reached};
 ghost use Rattle.negotiation.specs.Kept.{Ready};

@@ -1,7 +1,7 @@
 // Which sinks have a path from a source: a flood over the edges, each node once, until every sink is reached.
 ghost use Rattle.std.specs.Prelude.{◌+◌, ◌≤◌, length};
 ghost use Rattle.search.specs.Block.{row_start};
-ghost use Rattle.search.specs.Lent.{graph_in};
+ghost use Rattle.search.specs.Block.{graph_in};
 ghost use Rattle.job.specs.Steps.{AllBelow};
 ghost use Rattle.negotiation.specs.Flood.{FloodReady, FloodRoom, RowFlooded, Flooded, FirstUnmarked};
 

@@ -3,7 +3,7 @@
 
 ghost use Rattle.std.specs.Prelude.{[], ◌≡◌, ◌*◌, ◌≤◌, length, take};
 ghost use Rattle.job.specs.Job.{nodes};
-ghost use Rattle.job.specs.Lent.{job_in};
+ghost use Rattle.job.specs.Job.{job_in};
 ghost use Rattle.negotiation.specs.Routable.{Routable};
 ghost use Rattle.negotiation.specs.Records.{decode};
 ghost use Rattle.negotiation.specs.Outcome.{refused_answer, route_reply_of, turns_logged, reached_reply, tested};

@@ -1,7 +1,7 @@
 // Whether every sink has a path from its source, before iteration 1.
 ghost use Rattle.std.specs.Prelude.{◌≡◌, ◌*◌, ◌≤◌, length};
 ghost use Rattle.job.specs.Job.{nodes};
-ghost use Rattle.job.specs.Lent.{job_in};
+ghost use Rattle.job.specs.Job.{job_in};
 ghost use Rattle.negotiation.specs.Routable.{Routable};
 ghost use Rattle.negotiation.specs.Steps.{SameFrom, missing, reach_numbers};
 

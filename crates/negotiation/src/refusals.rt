@@ -1,6 +1,6 @@
 // The numbers of an outcome that is no success, for the calls for C and for the line that the program prints.
 ghost use Rattle.std.specs.Prelude.{◌≡◌, take};
-ghost use Rattle.job.specs.Refused.{numbers_if};
+ghost use Rattle.job.specs.Tables.{numbers_if};
 ghost use Rattle.negotiation.specs.Outcome.{route_refusal};
 
 use crate::Outcome;

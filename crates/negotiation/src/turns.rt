@@ -5,11 +5,12 @@ ghost use Rattle.std.specs.Prelude.{Bool, true, ◌++◌, ◌≡◌, ℕ, ◌+�
 ghost use Rattle.std.proofs.Math.Seq.{slice};
 ghost use Rattle.price.specs.Bounds.{limit_most};
 ghost use Rattle.price.specs.Prices.{next_factor};
-ghost use Rattle.search.specs.Lent.{block_in, congestion_in};
+ghost use Rattle.search.specs.Block.{block_in};
+ghost use Rattle.search.specs.Turn.{congestion_in};
 ghost use Rattle.search.specs.Distance.{tree_has};
 ghost use Rattle.search.specs.Turn.{weighed_congestion, price_at, turn};
 ghost use Rattle.job.specs.Job.{nodes, nets};
-ghost use Rattle.job.specs.Lent.{job_in};
+ghost use Rattle.job.specs.Job.{job_in};
 ghost use Rattle.negotiation.specs.Routable.{Routable};
 ghost use Rattle.negotiation.specs.Machine.{Progress};
 ghost use Rattle.negotiation.specs.Order.{sinks_tried, weighting_due};

@@ -15,7 +15,7 @@ use Rattle.search.specs.Turn.{Congestion}
 use Rattle.search.specs.Replies.{refusal_of, sink_list_sound, faulty_with_delays, faulty_with_sinks}
 use Rattle.search.specs.Priceable.{PricesReady}
 use Rattle.std.specs.Prelude.{Ok}
-use Rattle.search.specs.Lent.{tested}
+use Rattle.search.specs.Replies.{tested}
 use Rattle.search.proofs.TestedLaws.{tested_none}
 use Rattle.search.proofs.BlockLaws.{sound_of, kinds-few}
 use Rattle.search.proofs.ReadyLaws.{refusal-none, fault-none, delays-kept, passed_ready}

@@ -15,7 +15,7 @@ use Rattle.search.specs.Distance.{distances}
 use Rattle.search.specs.Turn.{Congestion, congestion_of, price_at}
 use Rattle.search.specs.Replies.{cleared, refusal_of, search_refusal, SearchReply, search_reply, timed_search_reply, faulty_with_delays, search_reply_of}
 use Rattle.std.specs.Prelude.{Result, Ok, Err, IsErr}
-use Rattle.search.specs.Lent.{tested}
+use Rattle.search.specs.Replies.{tested}
 use Rattle.search.specs.declared.Refusal.{Refusal}
 use Rattle.search.specs.declared.Refusal.TheVariants.{BadTable, ShortWork, BadNumber, TooLarge}
 use Rattle.search.specs.Priceable.{PricesReady}

@@ -1,4 +1,4 @@
--- A test of tables as a result (specs/Lent.antt): what is refused is the lowest faulty table, and where nothing is none is faulty.
+-- A test of tables as a result (`tested`): what is refused is the lowest faulty table, and where nothing is none is faulty.
 -- Assumes nothing.
 use mathlib.Core.List.{List}
 use mathlib.Core.Path.{◌≡◌, refl, sym, ◌∙◌, ap}
@@ -6,7 +6,7 @@ use Prim.Native.Nat.{ℕ, zero, suc, ◌≤◌}
 use native.Mathlib.Omega.{arith}
 use borrow.Author.Tests.{le-leb}
 use Rattle.std.specs.Prelude.{Result, Ok, Err, IsErrAnd}
-use Rattle.search.specs.Lent.{tested}
+use Rattle.search.specs.Replies.{tested}
 use Rattle.search.specs.Turn.{Congestion}
 use Rattle.search.specs.Replies.{refusal_of, refusal_numbers, search_refusal}
 use Rattle.search.specs.declared.BadTable.{BadTable}

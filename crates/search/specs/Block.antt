@@ -3,6 +3,8 @@
 use Rattle.std.specs.Prelude.{Bool, List, [], ℕ, ◌+◌, length, get_or}
 use Rattle.std.proofs.Math.Seq.{slice}
 use Rattle.price.specs.Lists.{has}
+use Rattle.search.specs.declared.Tables.{Tables}
+use Rattle.search.specs.declared.Back.{Back}
 
 pub record Block : Type 0 where
   -- 1. kind, a byte a node
@@ -38,3 +40,15 @@ row b u = slice (row_start b u) (row_start b (u + 1)) b.edge_targets
 -- there is an edge from u to v
 unfoldable pub has_edge : Block → ℕ → ℕ → Bool
 has_edge b u v = has v (row b u)
+
+-- the block in the tables that a caller lends
+abbrev pub block_in : Tables → Block
+block_in t = block_of t.kind.now t.capacity.now t.first_edge.now t.edge_target.now
+
+-- its graph alone
+abbrev pub graph_in : Tables → Block
+graph_in t = graph_of t.kind.now t.first_edge.now t.edge_target.now
+
+-- the graph of the edges by their target, over nodes of these kinds
+abbrev pub back_in : List ℕ → Back → Block
+back_in kinds b = graph_of kinds b.first_back.now b.back_source.now

@@ -10,6 +10,9 @@ use Rattle.price.specs.Timed.{weighed, history_bound}
 use Rattle.price.specs.declared.Weighting.{Weighting}
 use Rattle.search.specs.Turn.{Congestion}
 use Rattle.search.specs.Aimed.{scale_of}
+use Rattle.search.specs.Turn.{congestion_in}
+use Rattle.search.specs.declared.Tables.{Tables}
+use Rattle.search.specs.declared.Prices.{Prices}
 
 -- x, but at least `low` and at most `high`
 unfoldable pub clamped : ℕ → ℕ → ℕ → ℕ
@@ -45,3 +48,11 @@ pub record ListsLong (kinds capacities : List ℕ) (c : Congestion) : Type 0 whe
   pub others-long : length kinds ≤ length c.others
   pub delays-long : c.weighting.timed ≡ true → length kinds ≤ length c.delays
   pub timed_few : c.weighting.timed ≡ true → length kinds ≤ timed_nodes_most
+
+-- the price of a node of the tables and lists that a caller lends, each number read within its bounds
+abbrev pub price_read : Tables → Prices → ℕ → ℕ
+price_read t p = clamped_price t.kind.now t.capacity.now (congestion_in p)
+
+-- every list has an entry for each node
+abbrev pub Long : Tables → Prices → Type 0
+Long t p = ListsLong t.kind.now t.capacity.now (congestion_in p)

@@ -5,7 +5,6 @@ pub mod Distance
 pub mod Turn
 pub mod Aimed
 pub mod Clamped
-pub mod Lent
 pub mod Replies
 pub mod Priceable
 pub mod Layout

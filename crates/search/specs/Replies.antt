@@ -1,7 +1,7 @@
 -- What the calls of the search answer and leave in the work slice, as the numbers of document 01's table "Numbers for a stopped call".
 -- Assumes nothing.
 use Rattle.std.specs.Prelude.{Bool, true, false, not, List, [], ◌∷◌, ◌++◌, ℕ, ◌+◌, ◌*◌, ◌-◌, ◌<◌, leb, ltb, eqb, length, get_or, take}
-use Rattle.std.specs.Prelude.{drop, replicate, Option, Some, None, Result, Ok, Err}
+use Rattle.std.specs.Prelude.{drop, replicate, zero, suc, Option, Some, None, Result, Ok, Err}
 use Rattle.price.specs.Test.{choose, both}
 use Rattle.price.specs.Bounds.{factor_most, others_most, nodes_most, criticality_most, timed_nodes_most}
 use Rattle.price.specs.Lists.{every, first_below}
@@ -16,6 +16,7 @@ use Rattle.search.specs.Clamped.{clamped_price}
 use Rattle.search.specs.declared.Refusal.{Refusal}
 use Rattle.search.specs.declared.Refusal.TheVariants.{BadTable, ShortWork, BadNumber, TooLarge}
 use Rattle.search.specs.declared.Joins.{Joins}
+use Rattle.search.specs.declared.BadTable as bad
 
 -- "Work memory is enough from 8 × nodes entries."
 abbrev pub work_needed : ℕ → ℕ
@@ -233,3 +234,8 @@ JoinsCheapest b price marks sinks (Ok (Some j)) work =
     CheapestPath b price (tree_has marks) sinks (get_or sinks j.place 0) j.cost (take j.length work)
 JoinsCheapest b price marks sinks (Ok None) work = NoPath b (tree_has marks) sinks
 JoinsCheapest b price marks sinks (Err _) work = Unit {0}
+
+-- a test of tables as a result: the lowest table that breaks its rule is refused, 0 stands for none
+abbrev pub tested : ℕ → Result (Unit {0}) bad.BadTable
+tested zero = Ok tt
+tested (suc table) = Err (record { table = suc table })

@@ -9,6 +9,7 @@ use Rattle.price.specs.declared.Weighting.{Weighting}
 use Rattle.search.specs.Block.{Block, nodes, has_edge}
 use Rattle.search.specs.Paths.{path_cost}
 use Rattle.search.specs.Distance.{far, tree_has, distances}
+use Rattle.search.specs.declared.Prices.{Prices}
 
 -- what prices a turn beside the block: the factor, and of each node its history and how many other nets have it; in a timed job the
 -- criticality of the sink whose turn it is, and each node's delay
@@ -89,3 +90,7 @@ turn b price marks sinks =
     choose (eqb (nearest_distance b price marks sinks) far)
     stuck
     (join_at b price marks sinks (nearest_place b price marks sinks))
+
+-- what prices a turn, in the lists that a caller lends
+abbrev pub congestion_in : Prices → Congestion
+congestion_in p = weighed_congestion p.weighting p.delay.now p.factor p.history.now p.others.now

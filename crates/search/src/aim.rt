@@ -3,7 +3,8 @@
 // The work slice of n nodes: distances from 0, the queue from n, predecessors from 4n, estimates from 6n.
 ghost use Rattle.std.specs.Prelude.{List, ◌≡◌, ℕ, ◌+◌, ◌*◌, ◌^◌, ◌≤◌, ◌<◌, min, length};
 ghost use Rattle.search.specs.Block.{has_edge};
-ghost use Rattle.search.specs.Lent.{graph_in, back_in, price_read, Long};
+ghost use Rattle.search.specs.Block.{graph_in, back_in};
+ghost use Rattle.search.specs.Clamped.{price_read, Long};
 ghost use Rattle.search.specs.Distance.{far};
 ghost use Rattle.search.specs.ByTarget.{in_both};
 ghost use Rattle.search.specs.Layout.{dist_at, estimate_at, Tournament};

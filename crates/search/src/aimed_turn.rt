@@ -5,7 +5,8 @@ ghost use Rattle.std.specs.Prelude.{Bool, true, false, List, ◌≡◌, ◌⊎�
 ghost use Rattle.price.specs.Bounds.{nodes_most};
 ghost use Rattle.search.specs.Block.{block_of, graph_of};
 ghost use Rattle.search.specs.Distance.{far};
-ghost use Rattle.search.specs.Lent.{block_in, back_in, congestion_in};
+ghost use Rattle.search.specs.Block.{block_in, back_in};
+ghost use Rattle.search.specs.Turn.{congestion_in};
 ghost use Rattle.search.specs.Replies.{sinks_most};
 ghost use Rattle.search.specs.Priceable.{Fitted};
 ghost use Rattle.search.specs.Layout.{SameBut};

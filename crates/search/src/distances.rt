@@ -1,6 +1,7 @@
 // The distances of all nodes from the tree, once nothing is refused: labels spread until no node waits.
 ghost use Rattle.std.specs.Prelude.{◌≡◌, ◌*◌, ◌≤◌, length};
-ghost use Rattle.search.specs.Lent.{block_in, congestion_in};
+ghost use Rattle.search.specs.Block.{block_in};
+ghost use Rattle.search.specs.Turn.{congestion_in};
 ghost use Rattle.search.specs.Tables.{Sound};
 ghost use Rattle.search.specs.Distance.{distances as distances_of};
 ghost use Rattle.search.specs.Turn.{price_at};

@@ -5,7 +5,7 @@ ghost use Rattle.std.specs.Prelude.{Bool, true, false, ◌≡◌, ℕ, ◌+◌, 
 ghost use Rattle.price.specs.Test.{choose};
 ghost use Rattle.price.specs.Bounds.{nodes_most, base_most};
 ghost use Rattle.search.specs.Block.{graph_of};
-ghost use Rattle.search.specs.Lent.{back_in};
+ghost use Rattle.search.specs.Block.{back_in};
 ghost use Rattle.search.specs.Distance.{far};
 ghost use Rattle.search.specs.Clamped.{clamped_base, clamped_scale};
 ghost use Rattle.search.specs.Layout.{dist_at, estimate_at, Tournament};

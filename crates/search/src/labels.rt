@@ -7,7 +7,9 @@
 ghost use Rattle.std.specs.Prelude.{false, ◌≡◌, ◌+◌, ◌*◌, ◌≤◌, ◌<◌, min, length, get_or};
 ghost use Rattle.price.specs.Bounds.{nodes_most};
 ghost use Rattle.price.specs.Timed.{weighed_most};
-ghost use Rattle.search.specs.Lent.{graph_in, congestion_in, price_read, Long};
+ghost use Rattle.search.specs.Block.{graph_in};
+ghost use Rattle.search.specs.Turn.{congestion_in};
+ghost use Rattle.search.specs.Clamped.{price_read, Long};
 ghost use Rattle.search.specs.Clamped.{clamped_weighting};
 ghost use Rattle.search.specs.Labels.{label_at, from_at, with_from};
 ghost use Rattle.search.specs.Spread.{DeadEnd, LeadsNowhere, Idle, RowReady, Labelled, GoalMet, Lowered};

@@ -4,7 +4,9 @@
 ghost use Rattle.std.specs.Prelude.{List, [], ◌≡◌, ℕ, length};
 ghost use Rattle.price.specs.Test.{both};
 ghost use Rattle.search.specs.Block.{nodes};
-ghost use Rattle.search.specs.Lent.{block_in, congestion_in, back_in, tested};
+ghost use Rattle.search.specs.Block.{block_in, back_in};
+ghost use Rattle.search.specs.Turn.{congestion_in};
+ghost use Rattle.search.specs.Replies.{tested};
 ghost use Rattle.search.specs.Turn.{Congestion, weighed_congestion, congestion_of, timed_congestion, price_at};
 ghost use Rattle.search.specs.Replies.{search_reply_of, search_reply, timed_search_reply, LeavesLeastCosts};
 ghost use Rattle.search.specs.Replies.{refusal_of, search_refusal, faulty_delays, faulty_with_delays, faulty_with_sinks, path_due};

@@ -2,7 +2,7 @@
 ghost use Rattle.std.specs.Prelude.{◌≡◌, ℕ, ◌≤◌, leb, List, []};
 ghost use Rattle.price.specs.Bounds.{others_most, nodes_most};
 ghost use Rattle.search.specs.Turn.{weighed_congestion};
-ghost use Rattle.search.specs.Lent.{congestion_in};
+ghost use Rattle.search.specs.Turn.{congestion_in};
 ghost use Rattle.search.specs.Replies.{bounded, history_bounded, node_sound, bad_node};
 ghost use Rattle.search.specs.Replies.{too_many, bad_criticality, refusal_of, search_refusal};
 ghost use Rattle.search.specs.AllBelow.{all_below};

@@ -1,7 +1,9 @@
 // One turn of a net: labels spread from its tree until its nearest sink is reached, and the path is read off.
 ghost use Rattle.std.specs.Prelude.{false, ◌≡◌, ◌*◌, ◌≤◌, ◌<◌, length, take};
 ghost use Rattle.price.specs.Bounds.{nodes_most};
-ghost use Rattle.search.specs.Lent.{block_in, congestion_in, price_read, Long};
+ghost use Rattle.search.specs.Block.{block_in};
+ghost use Rattle.search.specs.Turn.{congestion_in};
+ghost use Rattle.search.specs.Clamped.{price_read, Long};
 ghost use Rattle.search.specs.Turn.{turn};
 ghost use Rattle.search.specs.Replies.{turn_reply, path_reply_of};
 ghost use Rattle.search.specs.Layout.{SameBut};

@@ -53,7 +53,7 @@ impl From<LineRefusal> for ReadRefusal {
 
 impl From<ReadRefusal> for Refused {
     ghost use Rattle.std.specs.Prelude.{◌≡◌};
-    ghost use Rattle.job.specs.Refused.{refused_numbers};
+    ghost use Rattle.job.specs.Tables.{refused_numbers};
     ghost use Rattle.text.specs.ReadReplies.{refusal_numbers};
 
     ghost from_gives = { λ refusal refused. refused_numbers refused ≡ refusal_numbers refusal };
@@ -104,7 +104,7 @@ impl From<UnsoundLog> for WriteRefusal {
 
 impl From<WriteRefusal> for Refused {
     ghost use Rattle.std.specs.Prelude.{◌≡◌};
-    ghost use Rattle.job.specs.Refused.{refused_numbers};
+    ghost use Rattle.job.specs.Tables.{refused_numbers};
     ghost use Rattle.text.specs.Routes.{write_numbers};
 
     ghost from_gives = { λ refusal refused. refused_numbers refused ≡ write_numbers refusal };

@@ -14,7 +14,7 @@ use Rattle.price.specs.Bounds.{nodes_most}
 use Rattle.price.specs.Lists.{first_below}
 use Rattle.price.proofs.BelowLaws.{first_below-is, first_below-all}
 use Rattle.search.specs.Block.{Block, nodes}
-use Rattle.search.specs.Lent.{tested}
+use Rattle.search.specs.Replies.{tested}
 use Rattle.search.specs.Tables.{faulty_table}
 use Rattle.search.specs.declared.BadTable.{BadTable}
 use Rattle.search.proofs.BlockLaws.{sound_of, kinds-few}

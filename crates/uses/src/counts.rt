@@ -2,7 +2,7 @@
 ghost use Rattle.std.specs.Prelude.{◌≡◌, ◌<◌, ◌≤◌, length, MatchOption};
 ghost use Rattle.price.specs.Bounds.{nodes_most};
 ghost use Rattle.price.specs.Lists.{first_below};
-ghost use Rattle.search.specs.Lent.{block_in};
+ghost use Rattle.search.specs.Block.{block_in};
 ghost use Rattle.uses.specs.Uses.{kind_count, logs_most, use_counts_of, counts_refusal};
 ghost use Rattle.uses.specs.Steps.{AtMost, test_refusal, over_nodes};
 

@@ -3,7 +3,7 @@
 
 ghost use Rattle.std.specs.Prelude.{true, [], ◌≡◌};
 ghost use Rattle.search.specs.Block.{block_of};
-ghost use Rattle.search.specs.Lent.{block_in};
+ghost use Rattle.search.specs.Block.{block_in};
 ghost use Rattle.search.specs.Tables.{kinds_sound};
 ghost use Rattle.uses.specs.Uses.{use_counts_of, add_reply_of, tested_reply, add_reply, print_reply_of, print_reply};
 ghost use Rattle.uses.specs.Steps.{count_most, AtMost, add_due, print_due};

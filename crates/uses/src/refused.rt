@@ -4,7 +4,7 @@ use job::Refused;
 
 impl From<AddRefusal> for Refused {
     ghost use Rattle.std.specs.Prelude.{Err, ◌≡◌};
-    ghost use Rattle.job.specs.Refused.{refused_numbers};
+    ghost use Rattle.job.specs.Tables.{refused_numbers};
     ghost use Rattle.uses.specs.Uses.{add_refusal};
 
     ghost from_gives = { λ refusal refused. refused_numbers refused ≡ add_refusal (Err refusal) };
@@ -26,7 +26,7 @@ impl From<AddRefusal> for Refused {
 
 impl From<PrintRefusal> for Refused {
     ghost use Rattle.std.specs.Prelude.{Err, ◌≡◌};
-    ghost use Rattle.job.specs.Refused.{refused_numbers};
+    ghost use Rattle.job.specs.Tables.{refused_numbers};
     ghost use Rattle.uses.specs.Uses.{print_refusal};
 
     ghost from_gives = { λ refusal refused. refused_numbers refused ≡ print_refusal (Err refusal) };

@@ -1,7 +1,7 @@
 -- `capi::resume_by` meets its contract: a short `out` is left, else what the resumed run answers is written.
 -- Assumes nothing.
 use lib.ListN.{take}
-use Rattle.job.specs.Lent.{job_in}
+use Rattle.job.specs.Job.{job_in}
 use Rattle.negotiation.specs.Records.{decode}
 use Rattle.negotiation.specs.Resume.{resume_reply}
 use Rattle.capi.proofs.CallLaws.{route_short, route_called}

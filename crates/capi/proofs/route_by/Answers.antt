@@ -1,7 +1,7 @@
 -- `capi::route_by` meets its contract: a short `out` is left, else what the router answers is written.
 -- Assumes nothing.
 use mathlib.Core.List.{[]}
-use Rattle.job.specs.Lent.{job_in}
+use Rattle.job.specs.Job.{job_in}
 use Rattle.negotiation.specs.Outcome.{route_reply}
 use Rattle.capi.proofs.CallLaws.{route_short, route_called}
 use Rattle.capi.proofs.route_by.Goals as goal

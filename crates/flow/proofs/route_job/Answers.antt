@@ -4,7 +4,7 @@ use mathlib.Core.Path.{◌∙◌, sym}
 use lib.Seq.{length-take-le}
 use Rattle.std.proofs.Common.{Ok, Err}
 use Rattle.std.proofs.lemmas.Result.{err_from_is_err_and}
-use Rattle.job.specs.Lent.{job_in}
+use Rattle.job.specs.Job.{job_in}
 use Rattle.flow.proofs.RunLaws.{words_fit, run_accepted, run_refused, write_refused}
 use Rattle.flow.proofs.route_job.Goals as goal
 

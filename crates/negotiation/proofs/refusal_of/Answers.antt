@@ -6,7 +6,7 @@ use native.Mathlib.Omega.{arith}
 use lib.ListN.{length}
 use Rattle.search.proofs.BlockLaws.{kinds-few}
 use Rattle.job.specs.Job.{Job}
-use Rattle.job.specs.Lent.{job_in}
+use Rattle.job.specs.Job.{job_in}
 use Rattle.job.specs.Tables.{faulty_job}
 use Rattle.job.proofs.JobLaws.{sound-job}
 use Rattle.search.proofs.TestedLaws.{tested_none}

@@ -1,7 +1,7 @@
 -- `negotiation::resume` meets its contract: a run from the words used, and what is promised of it.
 -- Assumes nothing.
 use Rattle.job.specs.Job.{Job}
-use Rattle.job.specs.Lent.{job_in}
+use Rattle.job.specs.Job.{job_in}
 use Rattle.negotiation.specs.Outcome.{route_reply_of}
 use Rattle.negotiation.proofs.RouteLaws.{resume_answered}
 use Rattle.negotiation.proofs.resume.Goals.{Start}

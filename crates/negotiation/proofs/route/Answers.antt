@@ -1,7 +1,7 @@
 -- `negotiation::route` meets its contract: a run that begins, and demand 3 of it.
 -- Assumes nothing.
 use Rattle.job.specs.Job.{Job}
-use Rattle.job.specs.Lent.{job_in}
+use Rattle.job.specs.Job.{job_in}
 use Rattle.negotiation.specs.Outcome.{route_reply_of}
 use Rattle.negotiation.proofs.RouteLaws.{route_answered}
 use Rattle.negotiation.proofs.route.Goals.{Start}

@@ -5,7 +5,7 @@ use native.Mathlib.Nat.{le_of_eq, le_trans}
 use native.Mathlib.Omega.{arith}
 use Rattle.search.proofs.BlockLaws.{kinds-few}
 use Rattle.job.specs.Job.{Job}
-use Rattle.job.specs.Lent.{job_in}
+use Rattle.job.specs.Job.{job_in}
 use Rattle.negotiation.specs.Steps.{missing, reach_numbers}
 use Rattle.negotiation.proofs.RefusalLaws.{refused-counts}
 use Rattle.negotiation.proofs.RouteLaws.{unreachable_refused, none-missing, run_answered}

@@ -32,7 +32,7 @@ use Rattle.search.specs.Tables.{Graph}
 use Rattle.search.proofs.BlockLaws.{graph_of_lem}
 use Rattle.search.proofs.DistinctLaws.{has_cons, lacks}
 use Rattle.job.specs.Job.{Job, nodes, source, net_sinks}
-use Rattle.job.specs.Lent.{job_in}
+use Rattle.job.specs.Job.{job_in}
 use Rattle.job.specs.declared.JobTables.{JobTables}
 use Rattle.negotiation.specs.Records.{Record, encode, words, path_nodes}
 use Rattle.negotiation.specs.Routable.{Routable}

@@ -24,12 +24,12 @@ use Rattle.search.specs.Block.{Block}
 use Rattle.search.specs.Block as block
 use Rattle.search.specs.Distance.{far, tree_has}
 use Rattle.search.specs.Turn.{Congestion, weighed_congestion, price_at, turn}
-use Rattle.search.specs.Lent.{block_in}
+use Rattle.search.specs.Block.{block_in}
 use Rattle.search.specs.Replies.{sink_list_sound}
 use Rattle.search.specs.Priceable.{PriceReady}
 use Rattle.search.proofs.BlockLaws.{kinds-few, capacities-long}
 use Rattle.job.specs.Job.{Job, nodes, nets, net_sinks}
-use Rattle.job.specs.Lent.{job_in}
+use Rattle.job.specs.Job.{job_in}
 use Rattle.job.specs.Steps.{AllBelow, Stored}
 use Rattle.job.specs.declared.JobTables.{JobTables}
 use Rattle.negotiation.specs.Routable.{Routable}

@@ -1,7 +1,7 @@
 -- `add_log` meets its contract: what the test of the counts refuses, else what the log gets.
 -- Assumes nothing.
 use Rattle.std.proofs.lemmas.Result.{err_from_is_err_and}
-use Rattle.search.specs.Lent.{block_in}
+use Rattle.search.specs.Block.{block_in}
 use Rattle.search.proofs.BlockLaws.{sound_of}
 use Rattle.uses.specs.Uses.{use_counts_of}
 use Rattle.uses.proofs.AnswerLaws.{test_fine, uses-low, add_refused, add_fine}

@@ -2,7 +2,7 @@
 -- Assumes nothing.
 use native.Mathlib.Omega.{arith}
 use Rattle.std.proofs.lemmas.Result.{err_from_is_err_and}
-use Rattle.search.specs.Lent.{block_in}
+use Rattle.search.specs.Block.{block_in}
 use Rattle.search.proofs.BlockLaws.{sound_of}
 use Rattle.uses.specs.Uses.{use_counts_of}
 use Rattle.uses.proofs.AnswerLaws.{test_fine, print_refused, print_fine}

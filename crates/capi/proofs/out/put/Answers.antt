@@ -2,7 +2,7 @@
 -- Assumes nothing.
 use Rattle.std.proofs.Common.{◌≡◌, ◌+◌, ◌-◌, List, ℕ, length, drop, replicate, ◌++◌, ap, arith, rules}
 use borrow.Rule.Slice.PartMut.{put_mid}
-use Rattle.job.specs.Refused.{numbers_if}
+use Rattle.job.specs.Tables.{numbers_if}
 use Rattle.capi.specs.Calls.{call_of, out_with, padded}
 use Rattle.capi.proofs.PutLaws.{put_over}
 use Rattle.capi.proofs.out.put.Goals as goal

@@ -1,7 +1,7 @@
 -- `out::put_routed` meets its contract: the outcome's numbers, then the call's own.
 -- Assumes nothing.
 use Rattle.std.proofs.Common.{◌≡◌, ◌∙◌, ap}
-use Rattle.job.specs.Refused.{numbers_if}
+use Rattle.job.specs.Tables.{numbers_if}
 use Rattle.negotiation.specs.Outcome.{route_refusal}
 use Rattle.capi.specs.Calls.{padded}
 use Rattle.capi.proofs.PutLaws.{three_told}

@@ -4,7 +4,7 @@
 use mathlib.Core.Path.{refl, sym}
 use Rattle.std.proofs.lemmas.Result.{err_from_is_err_and}
 use Rattle.search.proofs.TestedLaws.{tested_none}
-use Rattle.job.specs.Lent.{job_in}
+use Rattle.job.specs.Job.{job_in}
 use Rattle.job.proofs.NetTableLaws.{block-few, block_refused, nets_refused, times_last}
 use Rattle.job.proofs.tables.faulty_job.Goals as goal
 

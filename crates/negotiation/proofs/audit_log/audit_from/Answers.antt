@@ -7,7 +7,7 @@ use lib.ListN.{length}
 use lib.Seq.{length-take-le}
 use Rattle.search.proofs.BlockLaws.{kinds-few}
 use Rattle.job.specs.Job.{Job}
-use Rattle.job.specs.Lent.{job_in}
+use Rattle.job.specs.Job.{job_in}
 use Rattle.negotiation.proofs.audit_log.AuditLogLaws.{beyond_audited, taken_audited}
 use Rattle.negotiation.proofs.audit_log.audit_from.Goals.{Start}
 use Rattle.negotiation.proofs.audit_log.audit_from.Goals as goal

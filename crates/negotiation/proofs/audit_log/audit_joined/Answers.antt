@@ -5,7 +5,7 @@ use native.Mathlib.Nat.{le_of_eq, le_trans}
 use native.Mathlib.Omega.{arith}
 use Rattle.search.proofs.BlockLaws.{kinds-few}
 use Rattle.job.specs.Job.{Job}
-use Rattle.job.specs.Lent.{job_in}
+use Rattle.job.specs.Job.{job_in}
 use Rattle.negotiation.proofs.audit_log.AuditLogLaws.{unreachable_audited, run_audited}
 use Rattle.negotiation.proofs.audit_log.audit_joined.Goals.{After-unreachable}
 use Rattle.negotiation.proofs.audit_log.audit_joined.Goals as goal

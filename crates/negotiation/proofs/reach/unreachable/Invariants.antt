@@ -1,6 +1,6 @@
 -- `negotiation::reach::unreachable` meets its contract: no net that the loop has passed has a sink without a path.
 -- Assumes nothing.
-use Rattle.job.specs.Lent.{job_in}
+use Rattle.job.specs.Job.{job_in}
 use Rattle.negotiation.proofs.reach.TestedLaws.{Tested}
 use Rattle.negotiation.proofs.reach.unreachable.Given as goal
 

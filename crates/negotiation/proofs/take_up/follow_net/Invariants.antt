@@ -4,7 +4,7 @@
 use mathlib.Core.Path.{◌≡◌}
 use Prim.Native.Nat.{◌-◌, ◌*◌}
 use lib.ListN.{length, take, drop}
-use Rattle.job.specs.Lent.{job_in}
+use Rattle.job.specs.Job.{job_in}
 use Rattle.negotiation.specs.Machine.{Progress}
 use Rattle.negotiation.specs.Flood.{FirstUnmarked}
 use Rattle.negotiation.specs.Steps.{SameFrom}

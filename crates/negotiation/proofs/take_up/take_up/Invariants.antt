@@ -3,7 +3,7 @@
 -- Assumes nothing.
 use Prim.Native.Nat.{◌-◌, ◌*◌}
 use lib.ListN.{length}
-use Rattle.job.specs.Lent.{job_in}
+use Rattle.job.specs.Job.{job_in}
 use Rattle.negotiation.specs.Steps.{SameFrom}
 use Rattle.negotiation.proofs.take_up.TakeLogLaws.{Taking}
 use Rattle.negotiation.proofs.take_up.take_up.Given as goal

@@ -7,7 +7,7 @@ use lib.ListN.{length, take, replicate}
 use lib.Seq.{length-take-le}
 use Rattle.search.proofs.BlockLaws.{kinds-few}
 use Rattle.job.specs.Job.{Job, nodes, nets}
-use Rattle.job.specs.Lent.{job_in}
+use Rattle.job.specs.Job.{job_in}
 use Rattle.negotiation.specs.Records.{encode}
 use Rattle.negotiation.specs.Outcome.{first_progress}
 use Rattle.negotiation.specs.Kept.{Ready}

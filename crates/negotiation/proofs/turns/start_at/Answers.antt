@@ -5,7 +5,7 @@ use mathlib.Core.Path.{refl, sym}
 use lib.ListN.{take}
 use lib.Seq.{length-take-le}
 use Rattle.job.specs.Job.{Job}
-use Rattle.job.specs.Lent.{job_in}
+use Rattle.job.specs.Job.{job_in}
 use Rattle.negotiation.proofs.turns.StartLaws.{begun_over, start_anew, start-beyond, start-taken}
 use Rattle.negotiation.proofs.turns.start_at.Goals.{Start}
 use Rattle.negotiation.proofs.turns.start_at.Goals as goal

@@ -1,6 +1,6 @@
 -- `search::labels::clamped_price` meets its contract: the price takes every number that is clamped within its bounds.
 -- Assumes nothing.
-use Rattle.search.specs.Lent.{congestion_in}
+use Rattle.search.specs.Turn.{congestion_in}
 use Rattle.search.proofs.ClampedLaws.{clamped_answer}
 use Rattle.search.proofs.labels.clamped_price.Goals as goal
 

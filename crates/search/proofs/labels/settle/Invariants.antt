@@ -1,6 +1,7 @@
 -- `search::labels::settle` meets its contract. The invariant: the row has been looked at up to place e.
 -- Assumes nothing.
-use Rattle.search.specs.Lent.{graph_in, price_read}
+use Rattle.search.specs.Block.{graph_in}
+use Rattle.search.specs.Clamped.{price_read}
 use Rattle.search.proofs.SpreadRun.{LabelRowSoFar}
 use Rattle.search.proofs.labels.settle.Given as goal
 

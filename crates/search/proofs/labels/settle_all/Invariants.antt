@@ -3,7 +3,8 @@
 -- Assumes nothing.
 use Prim.Native.Nat.{◌+◌, ◌*◌}
 use lib.ListN.{length}
-use Rattle.search.specs.Lent.{graph_in, price_read}
+use Rattle.search.specs.Block.{graph_in}
+use Rattle.search.specs.Clamped.{price_read}
 use Rattle.search.specs.Spread.{bare_count}
 use Rattle.search.proofs.SpreadRun.{LabelsRunning}
 use Rattle.search.proofs.labels.settle_all.Given as goal

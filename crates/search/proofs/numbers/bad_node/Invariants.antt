@@ -3,7 +3,7 @@
 use mathlib.Core.Bool.{true}
 use mathlib.Core.Path.{◌≡◌}
 use Prim.Native.Nat.{ℕ, ◌<◌}
-use Rattle.search.specs.Lent.{congestion_in}
+use Rattle.search.specs.Turn.{congestion_in}
 use Rattle.search.specs.Replies.{node_sound}
 use Rattle.search.proofs.numbers.bad_node.Given as goal
 

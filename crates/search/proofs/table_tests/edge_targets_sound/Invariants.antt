@@ -6,7 +6,7 @@ use mathlib.Core.Path.{◌≡◌}
 use Prim.Native.Nat.{ℕ, ◌<◌}
 use lib.ListN.{length}
 use Rattle.search.specs.Block.{row}
-use Rattle.search.specs.Lent.{block_in}
+use Rattle.search.specs.Block.{block_in}
 use Rattle.search.specs.Tables.{row_sound}
 use Rattle.search.proofs.table_tests.edge_targets_sound.Given as goal
 

@@ -1,7 +1,8 @@
 -- `search::turn::join` meets its contract: tree and goals are marked, the labels spread until they stop, and the path is read off.
 -- Assumes nothing.
 use mathlib.Core.Bool.{true}
-use Rattle.search.specs.Lent.{graph_in, price_read}
+use Rattle.search.specs.Block.{graph_in}
+use Rattle.search.specs.Clamped.{price_read}
 use Rattle.search.proofs.JoinLaws.{fitted-lent, goals-room, join_ready, join_halts, join_stuck, join_joins}
 use Rattle.search.proofs.HaltLaws.{Halted, halted_found}
 use Rattle.search.proofs.turn.join.Goals.{After-settle_all-cost}

@@ -1,7 +1,7 @@
 -- `search::turn::least_price` meets its contract. The invariant: `least` is at most the price of each goal that was passed.
 -- Assumes nothing.
 use lib.ListN.{length}
-use Rattle.search.specs.Lent.{price_read}
+use Rattle.search.specs.Clamped.{price_read}
 use Rattle.search.specs.TurnWork.{LeastGoal}
 use Rattle.search.proofs.turn.least_price.Given as goal
 

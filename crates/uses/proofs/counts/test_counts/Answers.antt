@@ -5,7 +5,7 @@ use Prim.Native.Nat.{ℕ}
 use native.Mathlib.Omega.{arith}
 use lib.ListN.{get_or-replicate}
 use Rattle.std.proofs.lemmas.Result.{err_from_is_err_and}
-use Rattle.search.specs.Lent.{block_in}
+use Rattle.search.specs.Block.{block_in}
 use Rattle.search.proofs.BlockLaws.{sound_of}
 use Rattle.uses.specs.Uses.{kind_count}
 use Rattle.uses.proofs.TallyLaws.{tallied-long}
