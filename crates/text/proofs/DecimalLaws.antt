@@ -114,6 +114,37 @@ count-start n l =
 pub count_next : (n : ℕ) → 0 < n → n < 10 ^ 20 → digits_left n ≡ 1 + digits_left (n / 10)
 count_next n h l = digits_left_some n h ∙ count-start n l
 
+-- the last four digits and those of the rest
+pub count_four : (n : ℕ) → 10000 ≤ n → n < 10 ^ 20 → length (decimal n) ≡ 4 + length (decimal (n / 10000))
+count_four n h l =
+    let rest : n / 10 / 10 / 10 / 10 ≡ n / 10000 = omega arith in
+    let four = count-start n l in
+    let three = count_next (n / 10) (omega arith) (omega arith) in
+    let two = count_next (n / 10 / 10) (omega arith) (omega arith) in
+    let one = count_next (n / 10 / 10 / 10) (omega arith) (omega arith) in
+    rw (← rest) (omega (arith, digits_left_some (n / 10 / 10 / 10 / 10) (omega arith)))
+
+-- four digits at most
+pub count-one : (n : ℕ) → n < 10 → length (decimal n) ≡ 1
+count-one n h = omega (arith, count-start n (omega arith), digits_left_none (n / 10) (omega arith))
+
+pub count-two : (n : ℕ) → 10 ≤ n → n < 100 → length (decimal n) ≡ 2
+count-two n h l =
+    omega (arith, count-start n (omega arith), count_next (n / 10) (omega arith) (omega arith), digits_left_none (n / 10 / 10) (omega arith))
+
+pub count-three : (n : ℕ) → 100 ≤ n → n < 1000 → length (decimal n) ≡ 3
+count-three n h l =
+    let two = count_next (n / 10) (omega arith) (omega arith) in
+    let one = count_next (n / 10 / 10) (omega arith) (omega arith) in
+    omega (arith, count-start n (omega arith), digits_left_none (n / 10 / 10 / 10) (omega arith))
+
+pub count-last : (n : ℕ) → 1000 ≤ n → n < 10000 → length (decimal n) ≡ 4
+count-last n h l =
+    let three = count_next (n / 10) (omega arith) (omega arith) in
+    let two = count_next (n / 10 / 10) (omega arith) (omega arith) in
+    let one = count_next (n / 10 / 10 / 10) (omega arith) (omega arith) in
+    omega (arith, count-start n (omega arith), digits_left_none (n / 10 / 10 / 10 / 10) (omega arith))
+
 -- ---- writing digits, the last one first
 
 -- the digits that are yet to be written before so many places

@@ -10,7 +10,8 @@ ghost use Rattle.text.specs.WriteSteps.{Filled, AllSound, own_records, LatestPla
 use crate::latest::Latest;
 use crate::{Style, log_check, parts};
 
-// The steps of a net's path.
+// The steps of a net's path. Apart, so that the loop over the records keeps its places in registers.
+#[inline(never)]
 fn fill_steps(style: Style, net: u32, path: &[u32], buffer: &mut [u8], start: u64) -> u64
     ensures { Filled start (style_text style (steps net path.now)) buffer.old buffer.new result }
 {

@@ -12,13 +12,22 @@ pub fn digit_count(n: u64) -> usize
     ensures { (result ≡ length (decimal n)) × (1 ≤ result) × (result ≤ 20) }
 {
     let mut count = 1;
-    let mut left = n / 10;
-    // No `for`: the number itself tells how many digits it has.
-    while 0 < left {
-        left = left / 10;
-        count += 1;
+    let mut left = n;
+    // No `for`: the number itself tells how many digits it has. Most numbers of a text have four at most, and need no division.
+    while 10_000 <= left {
+        left = left / 10_000;
+        count += 4;
     }
-    count
+    if left < 10 {
+        return count;
+    }
+    if left < 100 {
+        return count + 1;
+    }
+    if left < 1_000 {
+        return count + 2;
+    }
+    count + 3
 }
 
 // Writes a number's digits, the last one first. 48 is the digit 0.

@@ -32,7 +32,7 @@ fn put_fields(fields: &[u64], buffer: &mut [u8], start: usize) -> usize
 }
 
 // Writes a line with this letter and these fields.
-fn put_line(letter: u8, fields: &[u64], buffer: &mut [u8], at: usize) -> usize
+pub fn put_line(letter: u8, fields: &[u64], buffer: &mut [u8], at: usize) -> usize
     requires { at + length (print_line letter fields.now) ≤ length buffer.old }
     ensures { Put at (print_line letter fields.now) buffer.old buffer.new result }
 {

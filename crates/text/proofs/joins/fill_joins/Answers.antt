@@ -12,7 +12,7 @@ pub loop-net-preserved : goal.loop-net-preserved
 loop-net-preserved c =
     elim c.if-first-net.branch [
       | then-first-net w ↦
-          rw (w.buffer-is, w.next-is) (joins-more c.loop-net.invariant (search rules) c.first_of-first.ensures w.if-first-net.true w.fill_line-next.ensures)
+          rw (w.buffer-is, w.next-is) (joins-more c.loop-net.invariant (search rules) c.first_of-first.ensures w.if-first-net.true w.fill_join-next.ensures)
       | else-first-net w ↦ rw (w.buffer-is, w.next-is) (joins_first c.loop-net.invariant (search rules) c.first_of-first.ensures w.if-first-net.false)
     ]
 
