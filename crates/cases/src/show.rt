@@ -38,23 +38,25 @@ pub fn line_end() {
     letter(10);
 }
 
-fn value(n: u64) {
+// A number of a refusal.
+pub fn value(n: u64) {
     letter(b',');
     number(n);
 }
 
-// `X` and a refusal's numbers: its row, and those beside it.
-pub fn refused(row: u32, first: u64, second: Option<u64>) {
+// `X` and a refusal's numbers: its row, of any width, and those beside it.
+pub fn refused<N: Into<u64>>(row: N, first: u64, second: Option<u64>) {
     letter(b' ');
     letter(b'X');
-    value(row as u64);
+    value(row.into());
     value(first);
     if let Some(n) = second {
         value(n);
     }
 }
 
-fn entry(n: u64) {
+// A number of an answer or an entry of a slice.
+pub fn entry(n: u64) {
     letter(b' ');
     number(n);
 }
