@@ -198,7 +198,9 @@ pub fn timed_price(n: Numbers, delay: u32, criticality: u32) -> Result<u64, BadN
     Ok(weigh(criticality, delay, congestion))
 }
 
-// The price of a node of this delay, timed or not.
+// The price of a node of this delay, timed or not. It is asked for each node that a path or a search meets: a call each was measured
+// slower where a lent log is followed.
+#[inline(always)]
 pub fn weighed_price(w: Weighting, n: Numbers, delay: u32) -> Result<u64, BadNumber>
     ensures { price_reply_of result ≡ weighed_reply w n.kind n.factor n.others n.capacity n.history delay }
 {
