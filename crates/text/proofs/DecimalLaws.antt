@@ -1,4 +1,4 @@
--- A number's digits: enough places give the same digits, the last digit apart, and what `digit_count` and `put_number` keep while they go.
+-- A number's digits: enough places give the same digits, the last digit apart, and what `long_count` and `put_number` keep while they go.
 -- Assumes nothing.
 use mathlib.Core.List.{List, [], ◌∷◌, ◌++◌, append-nil}
 use mathlib.Core.Logic.{⊎_elim}
@@ -113,16 +113,6 @@ count-start n l =
 
 pub count_next : (n : ℕ) → 0 < n → n < 10 ^ 20 → digits_left n ≡ 1 + digits_left (n / 10)
 count_next n h l = digits_left_some n h ∙ count-start n l
-
--- the last four digits and those of the rest
-pub count_four : (n : ℕ) → 10000 ≤ n → n < 10 ^ 20 → length (decimal n) ≡ 4 + length (decimal (n / 10000))
-count_four n h l =
-    let rest : n / 10 / 10 / 10 / 10 ≡ n / 10000 = omega arith in
-    let four = count-start n l in
-    let three = count_next (n / 10) (omega arith) (omega arith) in
-    let two = count_next (n / 10 / 10) (omega arith) (omega arith) in
-    let one = count_next (n / 10 / 10 / 10) (omega arith) (omega arith) in
-    rw (← rest) (omega (arith, digits_left_some (n / 10 / 10 / 10 / 10) (omega arith)))
 
 -- four digits at most
 pub count-one : (n : ℕ) → n < 10 → length (decimal n) ≡ 1

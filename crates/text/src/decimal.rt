@@ -7,27 +7,39 @@ ghost use Rattle.text.specs.WriteSteps.{Put};
 // The byte that ends a line.
 pub const LF: u8 = 10;
 
-// How many digits a number has.
-pub fn digit_count(n: u64) -> usize
+// How many digits a number has, found by divisions.
+#[cold]
+#[inline(never)]
+fn long_count(n: u64) -> usize
     ensures { (result ≡ length (decimal n)) × (1 ≤ result) × (result ≤ 20) }
 {
     let mut count = 1;
-    let mut left = n;
-    // No `for`: the number itself tells how many digits it has. Most numbers of a text have four at most, and need no division.
-    while 10_000 <= left {
-        left = left / 10_000;
-        count += 4;
+    let mut left = n / 10;
+    // No `for`: the number itself tells how many digits it has.
+    while 0 < left {
+        left = left / 10;
+        count += 1;
     }
-    if left < 10 {
-        return count;
+    count
+}
+
+// How many digits a number has. Most numbers of a text have four at most, and need no division.
+pub fn digit_count(n: u64) -> usize
+    ensures { (result ≡ length (decimal n)) × (1 ≤ result) × (result ≤ 20) }
+{
+    if n < 10 {
+        return 1;
     }
-    if left < 100 {
-        return count + 1;
+    if n < 100 {
+        return 2;
     }
-    if left < 1_000 {
-        return count + 2;
+    if n < 1_000 {
+        return 3;
     }
-    count + 3
+    if n < 10_000 {
+        return 4;
+    }
+    long_count(n)
 }
 
 // Writes a number's digits, the last one first. 48 is the digit 0.
