@@ -9,6 +9,7 @@
 -- Assumes nothing.
 use mathlib.Core.Bool.{Bool, true, false, not}
 use mathlib.Core.List.{List, []}
+use mathlib.Core.Logic.{⊎_elim}
 use mathlib.Core.Path.{◌≡◌, sym, ◌∙◌}
 use Prim.Native.Nat.{ℕ, ◌+◌, ◌-◌, ◌≤◌, ◌<◌}
 use native.Mathlib.Nat.{le_trans}
@@ -21,7 +22,7 @@ use Rattle.price.specs.Replies.{priced, price_reply_of}
 use Rattle.price.specs.Timed.{history_bound, weighed_most, weighed_reply}
 use Rattle.std.specs.Prelude.{Result, Ok, Err}
 use Rattle.price.specs.declared.BadNumber.{BadNumber}
-use Rattle.price.proofs.TestLaws.{true≢false, both_left, both_right}
+use Rattle.price.proofs.TestLaws.{true≢false, both_left, both_right, le_or_lt}
 use Rattle.price.proofs.ListLaws.{every-at}
 use Rattle.price.proofs.BelowLaws.{first_below-is, first_below-all}
 use Rattle.price.proofs.ReplyLaws.{answer-priced, answer_not_refused}
@@ -195,6 +196,13 @@ module _ (ks cs fs ts : List ℕ) (c : Congestion) (marks : List ℕ) where
     -- the same of the block with its capacities
     pub ready-block-fair : Fair (block_of ks cs fs ts) (price_at (block_of ks cs fs ts) c)
     ready-block-fair = let f = ready-fair in record { ceiling = f.ceiling; low = f.low; fits = f.fits; pos = f.pos; most = f.most }
+
+    pub ready_marks : length ks ≤ length marks
+    ready_marks =
+        ⊎_elim
+        (λ (l : length ks ≤ length marks). l)
+        (λ (l : length marks < length ks). absurd (let m = (ready-node (length marks) l).has_mark in omega arith))
+        (le_or_lt (length ks) (length marks))
 
 -- ---- what the price's answer says of a node that is ready to be priced
 

@@ -338,6 +338,15 @@ none-waits {n} l v none h = never_true (waits l v) (λ q. omega (arith, one_belo
 -- ---- what it says of the distances
 
 module _ {a : Block} {t : AimTask a} {marks sinks w : List ℕ} {lack best low : ℕ} (s : Searching t marks sinks w lack best low) where
+  -- outside the tree a distance is above 0
+  pub dist-pos : (v : ℕ) → v < nodes a → dist_at w v ≡ 0 → tree_has marks v ≡ true
+  dist-pos v h zero =
+      by_test (tree_has marks v)
+      (λ i. i)
+      (λ o.
+      let sum : dist_at w v ≡ dist_at w (pred_at (nodes a) w v) + t.price v = (s.reached v h o (omega arith)).sum in
+      absurd (omega (arith, t.fair.pos v h)))
+
   -- none is too large
   pub dist-sized : (v : ℕ) → v < nodes a → (dist_at w v ≡ far) ⊎ (dist_at w v ≤ reach_most)
   dist-sized v h =
