@@ -8,8 +8,6 @@ ghost use Rattle.text.specs.WriteSteps.{Put};
 pub const LF: u8 = 10;
 
 // How many digits a number has, found by divisions.
-#[cold]
-#[inline(never)]
 fn long_count(n: u64) -> usize
     ensures { (result ≡ length (decimal n)) × (1 ≤ result) × (result ≤ 20) }
 {
