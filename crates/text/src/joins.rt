@@ -35,7 +35,8 @@ fn fill_join(net: u64, first: u64, buffer: &mut [u8], at: u64) -> u64
     printing::put_line(b'J', &[net, first], buffer, at as usize) as u64
 }
 
-// The J lines, which are counted, and written if the buffer has room.
+// The J lines, which are counted, and written if the buffer has room. Apart, as the steps are, for the sake of registers.
+#[inline(never)]
 pub fn fill_joins(source: &[u16], buffer: &mut [u8], start: u64) -> u64
     ensures { Filled start (join_text (route_joins source.now)) buffer.old buffer.new result }
 {
