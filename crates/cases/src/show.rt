@@ -44,11 +44,11 @@ pub fn value(n: u64) {
     number(n);
 }
 
-// `X` and a refusal's numbers: its row, of any width, and those beside it.
-pub fn refused<N: Into<u64>>(row: N, first: u64, second: Option<u64>) {
+// `X` and a refusal's numbers: its row, and those beside it.
+pub fn refused(row: u64, first: u64, second: Option<u64>) {
     letter(b' ');
     letter(b'X');
-    value(row.into());
+    value(row);
     value(first);
     if let Some(n) = second {
         value(n);

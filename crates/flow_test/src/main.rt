@@ -66,7 +66,7 @@ fn call_case(call: Call, job: &[u8], lengths: [u32; 3]) {
     };
     match answer {
         Ok(bytes) => show::answered(&[bytes as u64]),
-        Err(refused) => show::refused(refused.number, refused.first, refused.second),
+        Err(refused) => show::refused(refused.number as u64, refused.first, refused.second),
     }
     show::entries(&kind);
     show::entries(&capacity);

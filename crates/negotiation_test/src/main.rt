@@ -12,7 +12,7 @@ use price::Tuning;
 // The refusal, if there is one, the iteration, the turns, the words of log, and of a search that aims how many nodes it expanded.
 fn answer(r: RouteAnswer, aimed: bool) {
     if let Some(refused) = negotiation::refusal(r.outcome, r.iteration, r.turns) {
-        show::refused(refused.number, refused.first, refused.second);
+        show::refused(refused.number as u64, refused.first, refused.second);
     }
     let own = [r.iteration as u64, r.turns, r.used, r.expanded];
     let shown = if aimed { 4 } else { 3 };

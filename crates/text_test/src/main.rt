@@ -7,7 +7,7 @@ use job::Refused;
 use text::{JobCounts, ReadRefusal, WriteRefusal};
 
 fn refused(r: Refused) {
-    show::refused(r.number, r.first, r.second);
+    show::refused(r.number as u64, r.first, r.second);
 }
 
 fn read_answer(answer: Result<JobCounts, ReadRefusal>) {
