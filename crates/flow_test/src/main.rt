@@ -115,5 +115,5 @@ impl Program for FlowTest {
 }
 
 fn main() {
-    cases::each::<FlowTest>()
+    cases::run::<FlowTest>()
 }

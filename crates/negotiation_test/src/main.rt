@@ -168,5 +168,5 @@ impl Program for NegotiationTest {
 }
 
 fn main() {
-    cases::each::<NegotiationTest>()
+    cases::run::<NegotiationTest>()
 }

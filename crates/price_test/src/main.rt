@@ -79,5 +79,5 @@ impl Program for PriceTest {
 }
 
 fn main() {
-    cases::each::<PriceTest>()
+    cases::run::<PriceTest>()
 }

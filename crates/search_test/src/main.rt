@@ -186,5 +186,5 @@ impl Program for SearchTest {
 }
 
 fn main() {
-    cases::each::<SearchTest>()
+    cases::run::<SearchTest>()
 }

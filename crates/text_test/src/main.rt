@@ -135,5 +135,5 @@ impl Program for TextTest {
 }
 
 fn main() {
-    cases::each::<TextTest>()
+    cases::run::<TextTest>()
 }
