@@ -1,5 +1,5 @@
-// Prints the name of each case of a case file, which docs/CASES.md describes, and a word after it, which the closure holds that
-// `cases::each` takes. The expected lines stand in the file stdout.
+// Prints the name of each case of a case file (docs/CASES.md), and a word after it. The word is held by the closure that `cases::each`
+// is handed. The expected lines stand in the file stdout.
 #![tactic(auto)]
 
 use cases::show;

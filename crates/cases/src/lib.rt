@@ -9,8 +9,8 @@ pub mod show;
 // Standard input, by its number: std's reader has no call that fills an array as far as the input goes, without a heap.
 const STDIN: i32 = 0;
 
-// Calls `one` on each case of the case file, with the text from that case on. A closure may hold values of its caller's, and a `Program`
-// can't: so this walk isn't made of `run`.
+// Calls `one` on each case of the case file, with the text from that case on. A closure may hold values and
+// a `Program` can't, so this can't call `run`.
 pub fn each<F: Fn(&[u8])>(one: F)
     requires { F.IsAlwaysCallable one }
 {
